@@ -1,0 +1,7 @@
+pub mod Spelled
+pub mod Reading
+pub mod Shortest
+pub mod Words
+pub mod Writing
+pub mod Theorems
+pub mod Determined

@@ -1,0 +1,91 @@
+-- Writing at a place of a lent buffer: the loops' invariants, one law for each way out.
+-- Assumes nothing.
+use Prim.Native.Nat.{ℕ, zero, suc, _+_, _-_, _*_, _/_, _%_, _^_, _≤_, _<_, zero-le}
+use mathlib.Core.Path.{_≡_, refl, sym, ap, _∙_}
+use mathlib.Core.Bool.{cond}
+use mathlib.Core.List.{List, [], _∷_, _++_}
+use native.Mathlib.Omega.{arith}
+use native.Mathlib.Nat.{add-zero, add-suc}
+use native.Mathlib.Numerals.{add-one}
+use lib.ListN.{length, getD, drop, set, length-set, drop-of-length-le}
+use lib.Seq.{sets, sets-eq, drop-cons}
+use borrow.Author.Tests.{le-leb, lt-leb}
+use Rattle.codec.specs.Shortest.{spell, shortest}
+use Rattle.codec.specs.Write.{placed, wroteAt}
+use Rattle.codec.specs.declared.Wrote.{Wrote}
+use Rattle.codec.specs.declared.Wrote.the-variants.{Next, NoRoom}
+use Rattle.codec.proofs.Shortest.{spell-one, spell-more, spell-pos, fewer}
+
+-- What holds at the head of the writer's loop: what is left has a spelling, which still has to be stored from i on.
+pub record Writes (n : ℕ) (out₀ : List ℕ) (at : ℕ) (out : List ℕ) (left i : ℕ) : Type 0 where
+  pub room : ℕ
+  pub small : left < 2 ^ (1 + 7 * room)
+  pub same : length out ≡ length out₀
+  pub bytes : sets out i (spell room left) ≡ sets out₀ at (shortest n)
+  pub ends : i + length (spell room left) ≡ at + length (shortest n)
+
+pub writes-start : (n : ℕ) (out : List ℕ) (at : ℕ) → n < 2 ^ 64 → Writes n out at out n at
+unfolding shortest
+writes-start n out at h = record { room = 9; small = h; same = refl; bytes = refl; ends = refl }
+
+module _ {n : ℕ} {out₀ : List ℕ} {at : ℕ} {out : List ℕ} {left i : ℕ} where
+  pub writes-room : Writes n out₀ at out left i → i < at + length (shortest n)
+  writes-room w = omega (arith, spell-pos (w .room) left, w .ends)
+
+  pub writes-more : Writes n out₀ at out left i → 128 ≤ left → Writes n out₀ at (set out i (128 + left % 128)) (left / 128) (i + 1)
+  writes-more w t = go (w .room) (w .small) (w .bytes) (w .ends)
+    where
+      go : (room : ℕ) → left < 2 ^ (1 + 7 * room) → sets out i (spell room left) ≡ sets out₀ at (shortest n)
+          → i + length (spell room left) ≡ at + length (shortest n) → Writes n out₀ at (set out i (128 + left % 128)) (left / 128) (i + 1)
+      go zero s b e = absurd (omega arith)
+      go (suc room) s b e = record {
+        room = room;
+        small = fewer room left s;
+        same = length-set out i (128 + left % 128) ∙ w .same;
+        bytes = rw add-one (rw (spell-more room left t) at b);
+        ends = omega (arith, ap length (spell-more room left t));
+      }
+
+  pub writes-last : Writes n out₀ at out left i → left < 128 → (set out i left ≡ sets out₀ at (shortest n)) × (i + 1 ≡ at + length (shortest n))
+  writes-last w t = (
+    ap (sets out i) (sym (spell-one (w .room) left t)) ∙ w .bytes,
+    omega (arith, ap length (spell-one (w .room) left t), w .ends),
+  )
+
+pub no-room : (out : List ℕ) (at : ℕ) (bs : List ℕ) → length out < at + length bs → (NoRoom ≡ wroteAt out at bs) × (out ≡ placed out at bs)
+no-room out at bs h = (simp (lt-leb _ _ h), simp (lt-leb _ _ h))
+
+pub room-for : (out : List ℕ) (at : ℕ) (bs : List ℕ) (r : List ℕ) (next : ℕ) → at + length bs ≤ length out → (r ≡ sets out at bs) × (next ≡ at + length bs)
+    → (Next next ≡ wroteAt out at bs) × (r ≡ placed out at bs)
+room-for out at bs r next h e =
+    (simp (le-leb _ _ h) (ap Next (e .1)), simp (le-leb _ _ h) (e .0 ∙ sets-eq bs out at h))
+
+-- ---- all of a slice
+
+-- What holds at the head of the copying loop: what is left of src still has to be stored from at + i on.
+pub record Copies (src out₀ : List ℕ) (at : ℕ) (out : List ℕ) (i : ℕ) : Type 0 where
+  pub within : i ≤ length src
+  pub same : length out ≡ length out₀
+  pub bytes : sets out (at + i) (drop i src) ≡ sets out₀ at src
+
+pub copies-start : (src out : List ℕ) (at : ℕ) → Copies src out at out 0
+copies-start src out at = record { within = zero-le; same = refl; bytes = ap (λ (p : ℕ). sets out p src) (add-zero at) }
+
+module _ {src out₀ : List ℕ} {at : ℕ} {out : List ℕ} {i : ℕ} where
+  pub copies-more : Copies src out₀ at out i → i < length src → Copies src out₀ at (set out (at + i) (getD src i 0)) (i + 1)
+  copies-more w h = record {
+    within = omega arith;
+    same = length-set out (at + i) (getD src i 0) ∙ w .same;
+    bytes = rw (add-one, add-suc at i) (rw (drop-cons src i 0 h) at (w .bytes));
+  }
+
+  pub copies-done : Copies src out₀ at out i → length src ≤ i → (out ≡ sets out₀ at src) × (at + i ≡ at + length src)
+  copies-done w h = (
+    ap (sets out (at + i)) (sym (drop-of-length-le src h)) ∙ w .bytes,
+    omega (arith, w .within),
+  )
+
+-- bytes that another function gave
+pub of-bytes : (out : List ℕ) (at : ℕ) {src bs : List ℕ} (r : Wrote) (later : List ℕ) → src ≡ bs
+    → (r ≡ wroteAt out at src) × (later ≡ placed out at src) → (r ≡ wroteAt out at bs) × (later ≡ placed out at bs)
+of-bytes out at r later e h = rw e at h

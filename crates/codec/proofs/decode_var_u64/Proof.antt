@@ -1,0 +1,43 @@
+-- `codec::decode_var_u64` meets its contract: one byte by itself, the rest by `decode_long`.
+-- Assumes nothing.
+use mathlib.Core.Path.{sym}
+use native.Mathlib.Omega.{arith}
+use borrow.Author.Needs.{needs}
+use Rattle.codec.proofs.Reading.{first-short, first-one}
+use Rattle.codec.proofs.decode_var_u64.Statement.{statement}
+use Rattle.codec.proofs.decode_var_u64.Tie as tie
+
+returns : tie.Need-returns
+returns c = sym (first-short _ _ (c .if1 .taken))
+
+shared-slice-read-wide : tie.Need-shared-slice-read-wide
+shared-slice-read-wide c = search needs
+
+wide-requires : tie.Need-wide-requires
+wide-requires c κs = search needs
+
+add-t8 : tie.Need-add-t8
+add-t8 c = search needs
+
+returns-2 : tie.Need-returns-2
+returns-2 c = first-one _ _ _ (omega arith) (c .before .wide .ensures) (c .if2 .taken)
+
+decode-long-requires : tie.Need-decode-long-requires
+decode-long-requires c κs =
+    let known = c .before .before .shared-slice-known2 .given (c .before .before .before .before .before .args .at) in
+    (search needs, c .before .wide .ensures, search needs, omega arith)
+
+returns-3 : tie.Need-returns-3
+returns-3 c = search needs
+
+pub decode-var-u64-spec : {M : Type 1} → statement M
+decode-var-u64-spec =
+    tie.close
+    (tie.spec
+    returns
+    shared-slice-read-wide
+    wide-requires
+    add-t8
+    returns-2
+    decode-long-requires
+    returns-3)

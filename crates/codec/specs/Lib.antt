@@ -1,0 +1,5 @@
+pub mod Spelling
+pub mod Number
+pub mod Shortest
+pub mod Word
+pub mod Write

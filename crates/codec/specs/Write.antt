@@ -1,0 +1,17 @@
+-- What writing bytes at a place of a lent buffer answers, and what the buffer holds afterwards.
+-- Assumes nothing.
+use Prim.Native.Nat.{ℕ, _+_}
+use mathlib.Core.Bool.{cond}
+use mathlib.Core.List.{List, _++_}
+use lib.Dec.{leb}
+use lib.ListN.{length, take, drop}
+use Rattle.codec.specs.declared.Wrote.{Wrote}
+use Rattle.codec.specs.declared.Wrote.the-variants.{Next, NoRoom}
+
+-- the place after the bytes, where they fit
+abbrev pub wroteAt : List ℕ → ℕ → List ℕ → Wrote
+wroteAt out at bs = cond (leb (at + length bs) (length out)) (Next (at + length bs)) NoRoom
+
+-- the buffer with the bytes at the place, where they fit, else as it was
+abbrev pub placed : List ℕ → ℕ → List ℕ → List ℕ
+placed out at bs = cond (leb (at + length bs) (length out)) (take at out ++ bs ++ drop (at + length bs) out) out

@@ -1,0 +1,112 @@
+// Numbers at their boundaries, written, read back, and read in every padded form; broken ones; and words.
+use crate::text;
+use codec::NumberRead;
+use codec::U32Read;
+use codec::U64Read;
+
+pub(crate) fn run() {
+    number(0);
+    number(127);
+    number(128);
+    number(300);
+    number(16_383);
+    number(16_384);
+    number(0xFFFF_FFFF);
+    number(0x8000_0000_0000_0000);
+    number(0xFFFF_FFFF_FFFF_FFFF);
+    read(b"");
+    read(b"\x80");
+    read(b"\xff\xff\xff\xff\xff\xff\xff\xff\xff");
+    read(b"\xff\xff\xff\xff\xff\xff\xff\xff\xff\x02");
+    read(b"\xff\xff\xff\xff\xff\xff\xff\xff\xff\x80");
+    read(b"\x05\x02");
+    word64(0x0102_0304_0506_0708);
+    word64(0xFFFF_FFFF_FFFF_FFFF);
+    word32(0x0102_0304);
+    word32(0xCBF4_3926);
+}
+
+// The shortest form, read back, then each longer form of the same number.
+fn number(n: u64) {
+    let mut buf = [0u8; 10];
+    let len = codec::var_u64_len(n);
+    codec::encode_var_u64(n, &mut buf, 0);
+    text::start(b"number");
+    text::number(n);
+    text::number(len as u64);
+    text::hex(text::front(&buf, len));
+    text::end();
+    read(text::front(&buf, len));
+    padded(buf, len);
+}
+
+// Reads the number in the first len bytes with one byte more at a time, up to ten.
+fn padded(bytes: [u8; 10], len: usize) {
+    let mut buf = bytes;
+    let mut n = len;
+    while n < 10 {
+        if n == 0 {
+            return;
+        }
+        buf[n - 1] = 128 + buf[n - 1] % 128;
+        buf[n] = 0;
+        n += 1;
+        read(text::front(&buf, n));
+    }
+}
+
+fn read(bytes: &[u8]) {
+    text::start(b"read");
+    text::hex(bytes);
+    match codec::decode_var_u64(bytes, 0) {
+        NumberRead::Done { value, next } => {
+            text::number(value);
+            text::number(next as u64);
+        }
+        NumberRead::Eof => text::word(b"eof"),
+        NumberRead::Overflow => text::word(b"overflow"),
+    }
+    text::end();
+}
+
+// Eight bytes, the word read back from them, and what seven of them give.
+fn word64(w: u64) {
+    let mut buf = [0u8; 8];
+    codec::encode_u64(w, &mut buf, 0);
+    text::start(b"u64");
+    text::hex(&buf);
+    read64(&buf);
+    read64(text::front(&buf, 7));
+    text::end();
+}
+
+fn read64(bytes: &[u8]) {
+    match codec::decode_u64(bytes, 0) {
+        U64Read::Done { value, next } => {
+            text::number(value);
+            text::number(next as u64);
+        }
+        U64Read::Eof => text::word(b"eof"),
+    }
+}
+
+// Four bytes, the word read back from them, and what three of them give.
+fn word32(w: u32) {
+    let mut buf = [0u8; 4];
+    codec::encode_u32_le(w, &mut buf, 0);
+    text::start(b"u32");
+    text::hex(&buf);
+    read32(&buf);
+    read32(text::front(&buf, 3));
+    text::end();
+}
+
+fn read32(bytes: &[u8]) {
+    match codec::decode_u32_le(bytes, 0) {
+        U32Read::Done { value, next } => {
+            text::number(value as u64);
+            text::number(next as u64);
+        }
+        U32Read::Eof => text::word(b"eof"),
+    }
+}

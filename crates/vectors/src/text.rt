@@ -1,0 +1,48 @@
+// Words of a line: text, numbers and bytes in hex, each after a space.
+use libc::STDOUT_FILENO;
+
+pub(crate) fn start(word: &[u8]) {
+    io::write_all(STDOUT_FILENO, word);
+}
+
+pub(crate) fn word(word: &[u8]) {
+    io::write_all(STDOUT_FILENO, b" ");
+    io::write_all(STDOUT_FILENO, word);
+}
+
+pub(crate) fn number(n: u64) {
+    io::write_all(STDOUT_FILENO, b" ");
+    io::print_decimal(STDOUT_FILENO, n);
+}
+
+// Eight digits of a checksum.
+pub(crate) fn checksum(sum: u32) {
+    io::write_all(STDOUT_FILENO, b" ");
+    io::print_hex(STDOUT_FILENO, sum as u64, 8);
+}
+
+pub(crate) fn hex(bytes: &[u8]) {
+    io::write_all(STDOUT_FILENO, b" ");
+    let mut i = 0;
+    while i < bytes.len() {
+        one_byte(bytes[i]);
+        i += 1;
+    }
+}
+
+fn one_byte(b: u8) {
+    io::print_hex(STDOUT_FILENO, b as u64, 2);
+}
+
+pub(crate) fn end() {
+    io::write_all(STDOUT_FILENO, b"\n");
+}
+
+// The first n bytes, or all where there are fewer.
+pub(crate) fn front(bytes: &[u8], n: usize) -> &[u8] {
+    if n <= bytes.len() {
+        &bytes[..n]
+    } else {
+        bytes
+    }
+}
