@@ -14,10 +14,7 @@ pub(crate) fn run() {
         b"00-to-1F",
         b"\x00\x01\x02\x03\x04\x05\x06\x07\x08\x09\x0a\x0b\x0c\x0d\x0e\x0f\x10\x11\x12\x13\x14\x15\x16\x17\x18\x19\x1a\x1b\x1c\x1d\x1e\x1f",
     );
-    sum(
-        b"fox",
-        b"The quick brown fox jumps over the lazy dog",
-    );
+    sum(b"fox", b"The quick brown fox jumps over the lazy dog");
 }
 
 fn sum(name: &[u8], data: &[u8]) {

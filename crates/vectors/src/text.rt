@@ -40,9 +40,5 @@ pub(crate) fn end() {
 
 // The first n bytes, or all where there are fewer.
 pub(crate) fn front(bytes: &[u8], n: usize) -> &[u8] {
-    if n <= bytes.len() {
-        &bytes[..n]
-    } else {
-        bytes
-    }
+    if n <= bytes.len() { &bytes[..n] } else { bytes }
 }
