@@ -1,4 +1,4 @@
--- The shortest spelling, digit by digit: that it spells its number, how many digits it has, and that none is shorter.
+-- The shortest spelling, digit by digit: that it spells its number, how many digits it has, that none is shorter, that none else is as short, and what fits so many digits.
 -- Assumes nothing.
 use Prim.Native.Nat.{ℕ, zero, suc, _+_, _-_, _*_, _/_, _%_, _^_, _≤_, _<_, suc-le-suc, zero-le}
 use mathlib.Core.Path.{_≡_, refl, sym, ap, _∙_, subst}
@@ -6,7 +6,7 @@ use mathlib.Core.Logic.{_⊎_, inl, inr, ⊎-elim}
 use mathlib.Core.Bool.{Bool, true, false, cond}
 use mathlib.Core.List.{List, [], _∷_, _++_}
 use native.Mathlib.Omega.{arith}
-use native.Mathlib.Nat.{lt-of-lt-of-le, lt-of-le-of-lt, not-le-of-lt, le-trans, lt-of-not-le}
+use native.Mathlib.Nat.{lt-of-lt-of-le, lt-of-le-of-lt, not-le-of-lt, le-trans, lt-of-not-le, le-of-suc-le-suc}
 use native.Mathlib.Numerals.{add-one}
 use lib.Dec.{ltb, lit<}
 use lib.ListN.{length, getD, take, drop, set, length-set}
@@ -17,6 +17,7 @@ use lib.Count.{leadingZeros, leading-top}
 use borrow.Author.Tests.{lt-ltb, le-ltb, ltb-true, ltb-false, le-leb, lt-leb}
 use Rattle.codec.specs.Spelling.{Groups, last, more, Spells}
 use Rattle.codec.specs.Shortest.{spell, shortest, statedLength}
+use Rattle.codec.proofs.Spelled.{groups-pos}
 
 spell-zero : (n : ℕ) → spell zero n ≡ n ∷ []
 unfolding spell
@@ -126,3 +127,26 @@ spell-pos (suc room) n = go (ltb n 128)
 pub shortest-pos : (n : ℕ) → 0 < length (shortest n)
 unfolding shortest
 shortest-pos n = spell-pos 9 n
+
+-- A spelling in bytes that is as short is the same.
+pub spell-only : (room : ℕ) {n : ℕ} {bs : List ℕ} → Groups n bs → ((i : ℕ) → getD bs i 0 < 256) → length bs ≡ length (spell room n) → bs ≡ spell room n
+spell-only room {n} (last h) hb e = rw (spell-one room n h)
+spell-only zero (more h g) hb e = absurd (omega (arith, groups-pos g, rw spell-zero at e))
+spell-only (suc room) (more {b} {n = m} {bs} h g) hb e = go (λ same. spell-only room g (λ i. hb (suc i)) same) (size (b - 128 + 128 * m))
+  where
+    go : (length bs ≡ length (spell room m) → bs ≡ spell room m) → Size (b - 128 + 128 * m) → b ∷ bs ≡ spell (suc room) (b - 128 + 128 * m)
+    go ih (small t) = absurd (omega (arith, groups-pos g, rw (spell-one (suc room) (b - 128 + 128 * m) t) at e))
+    go ih (large t) =
+        let rest : (b - 128 + 128 * m) / 128 ≡ m = omega (arith, hb 0) in
+        let first : 128 + (b - 128 + 128 * m) % 128 ≡ b = omega (arith, hb 0) in
+        let same : length bs ≡ length (spell room m) = omega (arith, rw (spell-more room (b - 128 + 128 * m) t, rest) at e) in
+        rw (spell-more room (b - 128 + 128 * m) t, rest, first) (ap {B = List ℕ} (λ l. b ∷ l) (ih same))
+
+-- What at most room + 1 bytes spell, the last of so many being 0 or 1, fits 1 + 7 * room bits.
+pub groups-fit : (room : ℕ) {n : ℕ} {bs : List ℕ} → Groups n bs → length bs ≤ suc room → getD bs room 0 ≤ 1 → ((i : ℕ) → getD bs i 0 < 256)
+    → n < 2 ^ (1 + 7 * room)
+groups-fit zero (last h) few tenth hb = omega arith
+groups-fit (suc room) (last h) few tenth hb = omega (arith, digit′ room, pow-pos (1 + 7 * room))
+groups-fit zero (more h g) few tenth hb = absurd (omega (arith, groups-pos g))
+groups-fit (suc room) (more h g) few tenth hb =
+    omega (arith, digit′ room, hb 0, groups-fit room g (le-of-suc-le-suc few) tenth (λ i. hb (suc i)))

@@ -21,7 +21,7 @@ use Rattle.codec.specs.Number.{readNumber, readFrom}
 use Rattle.codec.specs.Shortest.{shortest, statedLength}
 use Rattle.codec.specs.Word.{bigEndianBytes, littleEndianBytes, readU64, readU32}
 use Rattle.codec.proofs.Spelled.{read-groups, read-head, groups-pos}
-use Rattle.codec.proofs.Shortest.{digit, spell-good, spell-digits, spell-least, below-pow}
+use Rattle.codec.proofs.Shortest.{digit, spell-good, spell-digits, spell-least, spell-only, groups-fit, below-pow}
 use Rattle.codec.proofs.Words.{length-big, length-little, big-endian-back, little-endian-back}
 
 -- A number is read at a place exactly when some spelling of it stands there; the next place is where the spelling ends.
@@ -72,6 +72,15 @@ shortest-spells n h = let g = spell-good 9 n h in record { groups = g .groups; f
 pub none-shorter : {n : ℕ} {bs : List ℕ} → Spells n bs → ((i : ℕ) → getD bs i 0 < 256) → length (shortest n) ≤ length bs
 unfolding shortest
 none-shorter h byte = spell-least 9 (h .groups) byte
+
+-- A spelling of the number in bytes that is as short as the shortest is the shortest.
+pub none-as-short : {n : ℕ} {bs : List ℕ} → Spells n bs → ((i : ℕ) → getD bs i 0 < 256) → length bs ≡ length (shortest n) → bs ≡ shortest n
+unfolding shortest
+none-as-short h byte e = spell-only 9 (h .groups) byte e
+
+-- What bytes spell fits 64 bits.
+pub spells-fits : {n : ℕ} {bs : List ℕ} → Spells n bs → ((i : ℕ) → getD bs i 0 < 256) → n < 2 ^ 64
+spells-fits h byte = groups-fit 9 (h .groups) (h .few) (h .tenth) byte
 
 -- Its length is 70 minus the leading zeros of (number OR 1), divided by 7, rounded down.
 pub shortest-length : (n : ℕ) → n < 2 ^ 64 → length (shortest n) ≡ statedLength n

@@ -2,15 +2,16 @@
 -- Assumes nothing.
 use Prim.Native.Nat.{ℕ, zero, suc, _+_, _*_, _/_, _%_, _^_, _≤_, _<_}
 use mathlib.Core.Path.{_≡_, refl, sym, ap, _∙_}
-use mathlib.Core.List.{List, [], _∷_, _++_}
+use mathlib.Core.Bool.{Bool, true, false, cond}
+use mathlib.Core.List.{List, [], _∷_}
 use native.Mathlib.Omega.{arith}
 use native.Mathlib.Nat.{add-zero, add-suc, div-one, mod-one, one-le-pow, pow-suc, pow-succ'}
 use lib.ListN.{length, getD, take, drop}
-use lib.Dec.{lit<, lit≤}
+use lib.Dec.{leb, lit<, lit≤}
 use lib.Seq.{drop-cons}
 use lib.Arith.{mod-mul}
 use lib.Pow.{shl-exact}
-use borrow.Author.Tests.{le-leb, lt-leb}
+use borrow.Author.Tests.{le-leb, lt-leb, leb-true, leb-false}
 use Rattle.codec.specs.declared.U64Read.{U64Read}
 use Rattle.codec.specs.declared.U64Read.the-variants as u64
 use Rattle.codec.specs.declared.U32Read.{U32Read}
@@ -55,6 +56,24 @@ module _ (s : List ℕ) (at : ℕ) where
   pub u32-some : (w : ℕ) → at + 4 ≤ length s → w ≡ littleEndian (getD s at 0 ∷ bytesAt 3 s at 1) → u32.Done w (at + 4) ≡ readU32 s at
   unfolding readU32
   u32-some w h e = simp (le-leb _ _ h) (ap (λ (x : ℕ). u32.Done x (at + 4)) (e ∙ ap littleEndian (sym (front 3 s at h))))
+
+-- what an answer says of the bytes
+pub u64-known : (s : List ℕ) (at : ℕ) {w q : ℕ} → readU64 s at ≡ u64.Done w q → (at + 8 ≤ length s) × (w ≡ bigEndian (take 8 (drop at s))) × (q ≡ at + 8)
+unfolding readU64
+u64-known s at {w} {q} e = go (leb (at + 8) (length s)) refl e
+  where
+    go : (t : Bool) → leb (at + 8) (length s) ≡ t → cond t (u64.Done (bigEndian (take 8 (drop at s))) (at + 8)) u64.Eof ≡ u64.Done w q
+        → (at + 8 ≤ length s) × (w ≡ bigEndian (take 8 (drop at s))) × (q ≡ at + 8)
+    go true h f = (leb-true (at + 8) (length s) h, cc, cc)
+    go false h f = let z : _≡_ {A = ℕ} 0 1 = cc in absurd (omega arith)
+
+pub u64-ended : (s : List ℕ) (at : ℕ) → readU64 s at ≡ u64.Eof → length s < at + 8
+unfolding readU64
+u64-ended s at e = go (leb (at + 8) (length s)) refl e
+  where
+    go : (t : Bool) → leb (at + 8) (length s) ≡ t → cond t (u64.Done (bigEndian (take 8 (drop at s))) (at + 8)) u64.Eof ≡ u64.Eof → length s < at + 8
+    go true h f = let z : _≡_ {A = ℕ} 0 1 = cc in absurd (omega arith)
+    go false h f = leb-false (at + 8) (length s) h
 
 -- ---- the words as sums of shifted bytes
 

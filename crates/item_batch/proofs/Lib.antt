@@ -1,0 +1,12 @@
+pub mod Accepts
+pub mod Listing
+pub mod One
+pub mod Bodies
+pub mod Theorems
+pub mod Sealing
+pub mod Checking
+pub mod Rows
+pub mod Coming
+pub mod Filling
+pub mod Tables
+pub mod Determined

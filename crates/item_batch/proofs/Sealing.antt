@@ -1,0 +1,77 @@
+-- What testing a seal comes to, a law for each way out of the code, and what the seal says of the body's reading.
+-- Assumes nothing.
+use Prim.Native.Nat.{ℕ, zero, suc, _+_, _-_, _≤_, _<_}
+use mathlib.Core.Path.{_≡_, refl, sym, ap, _∙_}
+use mathlib.Core.Bool.{Bool, true, false, cond}
+use mathlib.Core.List.{List}
+use native.Mathlib.Omega.{arith}
+use borrow.Author.Tests.{le-leb, lt-leb, leb-false, eq-eqb, ne-eqb}
+use lib.Bits.{bitXor}
+use lib.Dec.{leb, eqb}
+use lib.ListN.{length, take, drop, length-drop}
+use lib.Seq.{take-all}
+use Rattle.codec.specs.Word.{littleEndian, readU32}
+use Rattle.codec.specs.declared.U32Read.{U32Read}
+use Rattle.codec.specs.declared.U32Read.the-variants.{Done, Eof}
+use Rattle.crc.specs.Crc.{crcOf}
+use Rattle.log_item.specs.declared.Form.the-variants.{Any}
+use Rattle.item_batch.specs.Reading.{rejected, readItems}
+use Rattle.item_batch.specs.Seal.{sealedPart, footer, sealCheck}
+use Rattle.item_batch.specs.Body.{unless, readBody}
+
+module _ (b : List ℕ) (signature : ℕ) where
+  pub seal-short : length b ≤ 4 → 5 ≡ sealCheck b signature
+  unfolding sealCheck
+  seal-short h = rw (le-leb _ _ h)
+
+  module _ (long : 4 < length b) where
+    -- the word at the last four bytes is the footer
+    word : readU32 b (length b - 4) ≡ Done (footer b) (length b - 4 + 4)
+    unfolding readU32
+    word =
+        let fits : length b - 4 + 4 ≤ length b = omega arith in
+        let four : length (drop (length b - 4) b) ≤ 4 = omega (arith, length-drop (length b - 4) b) in
+        rw (le-leb _ _ fits, take-all 4 (drop (length b - 4) b) four)
+
+    same : {w q : ℕ} → readU32 b (length b - 4) ≡ Done w q → w ≡ footer b
+    same e = cc word
+
+    module _ {w q c : ℕ} (e : readU32 b (length b - 4) ≡ Done w q) (k : c ≡ crcOf (sealedPart b)) where
+      pub seal-good : w ≡ bitXor c signature → 0 ≡ sealCheck b signature
+      unfolding sealCheck
+      seal-good h =
+          let f : footer b ≡ bitXor (crcOf (sealedPart b)) signature = sym (same e) ∙ h ∙ ap (λ (x : ℕ). bitXor x signature) k in
+          rw (lt-leb _ _ long, eq-eqb _ _ f)
+
+      pub seal-wrong : (w ≡ bitXor c signature → ⊥) → 6 ≡ sealCheck b signature
+      unfolding sealCheck
+      seal-wrong h =
+          let f : footer b ≡ bitXor (crcOf (sealedPart b)) signature → ⊥ =
+          λ g. h (same e ∙ g ∙ ap (λ (x : ℕ). bitXor x signature) (sym k)) in
+          rw (lt-leb _ _ long, ne-eqb _ _ f)
+
+    -- there are four bytes
+    pub seal-there : {r : ℕ} → readU32 b (length b - 4) ≡ Eof → r ≡ sealCheck b signature
+    seal-there e = let z : _≡_ {A = ℕ} 0 1 = cc word in absurd (omega arith)
+
+  -- A seal that is not broken has more than four bytes.
+  pub seal-long : sealCheck b signature ≡ 0 → 4 < length b
+  unfolding sealCheck
+  seal-long e = go (leb (length b) 4) refl e
+    where
+      go : (t : Bool) → leb (length b) 4 ≡ t → _≡_ {A = ℕ} (cond t 5 (cond (eqb (footer b) (bitXor (crcOf (sealedPart b)) signature)) 0 6)) 0 → 4 < length b
+      go true h f = absurd (omega arith)
+      go false h f = leb-false (length b) 4 h
+
+  -- A broken seal is what the body's reading answers; behind a good one it is what stands before the footer.
+  pub body-refused : {n : ℕ} → n ≡ sealCheck b signature → (n ≡ 0 → ⊥) → readBody b signature ≡ rejected n 0
+  unfolding readBody
+  body-refused {n} e h = rw (← e) (go n h)
+    where
+      go : (m : ℕ) → (m ≡ 0 → ⊥) → unless m (readItems Any (sealedPart b)) ≡ rejected m 0
+      go zero k = absurd (k refl)
+      go (suc m) k = refl
+
+  pub body-sealed : {n : ℕ} → n ≡ sealCheck b signature → n ≡ 0 → readBody b signature ≡ readItems Any (sealedPart b)
+  unfolding readBody
+  body-sealed e h = rw (← e, h)

@@ -1,0 +1,62 @@
+-- The table that holds an answer: rows in order, the others blank. A refused reading is the empty table with its refusal.
+-- Assumes nothing.
+use Prim.Native.Nat.{ℕ, _-_}
+use mathlib.Core.Bool.{cond}
+use mathlib.Core.List.{List, _++_}
+use lib.Dec.{eqb}
+use lib.ListN.{length, replicate}
+use Rattle.refusal.specs.declared.Refusal.{Refusal}
+use Rattle.log_item.specs.declared.Span.{Span}
+use Rattle.log_item.specs.declared.LogItemContent.the-variants as contents
+use Rattle.log_item.specs.declared.LogItem.{LogItem}
+use Rattle.log_item.specs.declared.EntryIndex.{EntryIndex}
+use Rattle.item_batch.specs.declared.LogItemBatch.{LogItemBatch}
+use Rattle.item_batch.specs.declared.Wanted.{Wanted}
+use Rattle.item_batch.specs.declared.Wanted.the-variants.{Free, Exactly}
+use Rattle.item_batch.specs.Reading.{Answer, accepted, rejected}
+
+abbrev pub blankItem : LogItem
+blankItem = record { «raft_group_id» = 0; content = contents.EntryIndexes (record { count = 0; «first_index» = 0 }) }
+
+abbrev pub blankEntry : EntryIndex
+blankEntry = record { index = 0; «entry_offset» = 0; «entry_len» = 0 }
+
+-- a table of n rows that begins with the list, the others blank
+abbrev pub pad : {A : Type 0} → A → ℕ → List A → List A
+pad z n xs = xs ++ replicate (n - length xs) z
+
+abbrev pub emptyTable : ℕ → ℕ → LogItemBatch
+emptyTable r i =
+    record {
+      items = replicate 256 blankItem;
+      «item_count» = 0;
+      entries = replicate 1024 blankEntry;
+      «entry_count» = 0;
+      total = 0;
+      next = 0;
+      body = record { at = 0; len = 0 };
+      block = record { at = 0; len = 0 };
+      refusal = record { number = r; item = i };
+    }
+
+-- the table of an answer, with the places of body and block in the bytes that were read
+unfoldable pub tableOf : Span → Span → Answer → LogItemBatch
+tableOf body block (accepted xs rows u q) =
+    record {
+      items = pad blankItem 256 xs;
+      «item_count» = length xs;
+      entries = pad blankEntry 1024 rows;
+      «entry_count» = length rows;
+      total = u;
+      next = q;
+      body = body;
+      block = block;
+      refusal = record { number = 0; item = 0 };
+    }
+tableOf body block (rejected r i) = emptyTable r i
+
+-- an answer whose entry total is not the one wanted is a 20
+abbrev pub agreeing : Wanted → Answer → Answer
+agreeing Free a = a
+agreeing (Exactly n) (accepted xs rows u q) = cond (eqb u n) (accepted xs rows u q) (rejected 20 0)
+agreeing (Exactly n) (rejected r i) = rejected r i

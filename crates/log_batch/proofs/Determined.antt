@@ -1,0 +1,45 @@
+-- No second answer: two results, and two later contents of what is lent, that meet one contract are equal.
+-- Assumes nothing.
+use mathlib.Core.Path.{_≡_, sym, _∙_}
+use denote.Ref.{now}
+use Rattle.one_answer.specs.OneAnswer.{OneAnswer}
+use Rattle.log_batch.specs.Header.{headerGot}
+use Rattle.log_batch.specs.declared.HeaderRead.{HeaderRead}
+use Rattle.log_batch.specs.declared.HeaderRead.the-variants as read
+use Rattle.log_batch.proofs.LogBatch.new.Kinds as new-kinds
+use Rattle.log_batch.proofs.LogBatch.new.Reads as new-reads
+use Rattle.log_batch.proofs.LogBatch.decode_header.Kinds as decode-header-kinds
+use Rattle.log_batch.proofs.LogBatch.decode_header.Reads as decode-header-reads
+use Rattle.log_batch.proofs.LogBatch.decode.Kinds as decode-kinds
+use Rattle.log_batch.proofs.LogBatch.decode.Reads as decode-reads
+use Rattle.log_batch.proofs.check_block.Kinds as check-block-kinds
+use Rattle.log_batch.proofs.check_block.Reads as check-block-reads
+use Rattle.log_batch.proofs.entry_view.Kinds as entry-view-kinds
+use Rattle.log_batch.proofs.entry_view.Reads as entry-view-reads
+use Rattle.log_batch.proofs.AtomicGroupStatus.parse.Kinds as parse-kinds
+use Rattle.log_batch.proofs.AtomicGroupStatus.parse.Reads as parse-reads
+
+-- An answer says in the words of the definitions all that it says.
+header-same : (a b : HeaderRead) → headerGot a ≡ headerGot b → a ≡ b
+header-same (read.Done x) (read.Done y) e = cc
+header-same (read.Done x) (read.Refused r) e = cc
+header-same (read.Refused r) (read.Done x) e = cc
+header-same (read.Refused r) (read.Refused x) e = cc
+
+pub new : OneAnswer 0 new-kinds.ps new-kinds.r new-reads.Post (λ κs x y s t. x ≡ y)
+new κs a x y s t p q = p ∙ sym q
+
+pub decode-header : OneAnswer 1 decode-header-kinds.ps decode-header-kinds.r decode-header-reads.Post (λ κs x y s t. x ≡ y)
+decode-header κs a x y s t p q = header-same x y (p ∙ sym q)
+
+pub decode : OneAnswer 1 decode-kinds.ps decode-kinds.r decode-reads.Post (λ κs x y s t. x ≡ y)
+decode κs a x y s t p q = p ∙ sym q
+
+pub check-block : OneAnswer 1 check-block-kinds.ps check-block-kinds.r check-block-reads.Post (λ κs x y s t. x ≡ y)
+check-block κs a x y s t p q = p ∙ sym q
+
+pub entry-view : OneAnswer 2 entry-view-kinds.ps entry-view-kinds.r entry-view-reads.Post (λ κs x y s t. (now x ≡ now y) × (now (s .1 .1 .1 .0) ≡ now (t .1 .1 .1 .0)))
+entry-view κs a x y s t p q = (p .1 ∙ sym (q .1), p .0 ∙ sym (q .0))
+
+pub parse : OneAnswer 1 parse-kinds.ps parse-kinds.r parse-reads.Post (λ κs x y s t. x ≡ y)
+parse κs a x y s t p q = p ∙ sym q

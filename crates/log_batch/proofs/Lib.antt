@@ -1,0 +1,4 @@
+pub mod Frames
+pub mod Views
+pub mod Marks
+pub mod Determined

@@ -1,0 +1,4 @@
+pub mod Header
+pub mod Batch
+pub mod View
+pub mod Status

@@ -1,0 +1,83 @@
+-- No second answer: two results that meet one contract are equal.
+-- Assumes nothing.
+use mathlib.Core.Path.{_≡_, sym, ap, _∙_}
+use Rattle.one_answer.specs.OneAnswer.{OneAnswer}
+use Rattle.log_item.specs.Answers.{Passed, fieldGot, headGot, tailGot, itemGot}
+use Rattle.log_item.specs.declared.Field.{Field}
+use Rattle.log_item.specs.declared.Field.the-variants as field
+use Rattle.log_item.specs.declared.HeadRead.{HeadRead}
+use Rattle.log_item.specs.declared.HeadRead.the-variants as head
+use Rattle.log_item.specs.declared.TailRead.{TailRead}
+use Rattle.log_item.specs.declared.TailRead.the-variants as tail
+use Rattle.log_item.specs.declared.ItemRead.{ItemRead}
+use Rattle.log_item.specs.declared.ItemRead.the-variants as item
+use Rattle.log_item.proofs.LogItem.decode.Kinds as decode-kinds
+use Rattle.log_item.proofs.LogItem.decode.Reads as decode-reads
+use Rattle.log_item.proofs.LogItem.decode_form.Kinds as decode-form-kinds
+use Rattle.log_item.proofs.LogItem.decode_form.Reads as decode-form-reads
+use Rattle.log_item.proofs.LogItem.decode_head.Kinds as decode-head-kinds
+use Rattle.log_item.proofs.LogItem.decode_head.Reads as decode-head-reads
+use Rattle.log_item.proofs.LogItem.entries.Kinds as entries-kinds
+use Rattle.log_item.proofs.LogItem.entries.Reads as entries-reads
+use Rattle.log_item.proofs.EntryIndexes.decode_tail.Kinds as decode-tail-kinds
+use Rattle.log_item.proofs.EntryIndexes.decode_tail.Reads as decode-tail-reads
+use Rattle.log_item.proofs.read_number.Kinds as read-number-kinds
+use Rattle.log_item.proofs.read_number.Reads as read-number-reads
+use Rattle.log_item.proofs.starts_with.Kinds as starts-with-kinds
+use Rattle.log_item.proofs.starts_with.Reads as starts-with-reads
+use Rattle.log_item.proofs.is_internal_key.Kinds as is-internal-key-kinds
+use Rattle.log_item.proofs.is_internal_key.Reads as is-internal-key-reads
+
+-- An answer says in the words of the definitions all that it says.
+field-same : (a b : Field) → fieldGot a ≡ fieldGot b → a ≡ b
+field-same (field.Done x q) (field.Done y z) e = cc
+field-same (field.Done x q) (field.Refused r) e = cc
+field-same (field.Refused r) (field.Done x q) e = cc
+field-same (field.Refused r) (field.Refused x) e = cc
+
+head-same : (a b : HeadRead) → headGot a ≡ headGot b → a ≡ b
+head-same (head.Done x q) (head.Done y z) e = cc
+head-same (head.Done x q) (head.Refused r) e = cc
+head-same (head.Refused r) (head.Done x q) e = cc
+head-same (head.Refused r) (head.Refused x) e = cc
+
+tail-same : (a b : TailRead) → tailGot a ≡ tailGot b → a ≡ b
+tail-same (tail.Done x q) (tail.Done y z) e = cc
+tail-same (tail.Done x q) (tail.Refused r) e = cc
+tail-same (tail.Refused r) (tail.Done x q) e = cc
+tail-same (tail.Refused r) (tail.Refused x) e = cc
+
+item-same : (a b : ItemRead) → itemGot a ≡ itemGot b → a ≡ b
+item-same (item.Done x q u n) (item.Done y z v m) e =
+    let p : _≡_ {A = Passed} (record { item = x; total = u; used = n }) (record { item = y; total = v; used = m }) = cc in
+    let i : x ≡ y = ap (λ (a : Passed). a .item) p in
+    let t : u ≡ v = ap (λ (a : Passed). a .total) p in
+    let k : n ≡ m = ap (λ (a : Passed). a .used) p in
+    cc
+item-same (item.Done x q u n) (item.Refused r) e = cc
+item-same (item.Refused r) (item.Done x q u n) e = cc
+item-same (item.Refused r) (item.Refused x) e = cc
+
+pub decode : OneAnswer 1 decode-kinds.ps decode-kinds.r decode-reads.Post (λ κs x y s t. x ≡ y)
+decode κs a x y s t p q = item-same x y (p ∙ sym q)
+
+pub decode-form : OneAnswer 1 decode-form-kinds.ps decode-form-kinds.r decode-form-reads.Post (λ κs x y s t. x ≡ y)
+decode-form κs a x y s t p q = item-same x y (p ∙ sym q)
+
+pub decode-head : OneAnswer 1 decode-head-kinds.ps decode-head-kinds.r decode-head-reads.Post (λ κs x y s t. x ≡ y)
+decode-head κs a x y s t p q = head-same x y (p ∙ sym q)
+
+pub entries : OneAnswer 0 entries-kinds.ps entries-kinds.r entries-reads.Post (λ κs x y s t. x ≡ y)
+entries κs a x y s t p q = p ∙ sym q
+
+pub decode-tail : OneAnswer 1 decode-tail-kinds.ps decode-tail-kinds.r decode-tail-reads.Post (λ κs x y s t. x ≡ y)
+decode-tail κs a x y s t p q = tail-same x y (p ∙ sym q)
+
+pub read-number : OneAnswer 1 read-number-kinds.ps read-number-kinds.r read-number-reads.Post (λ κs x y s t. x ≡ y)
+read-number κs a x y s t p q = field-same x y (p ∙ sym q)
+
+pub is-internal-key : OneAnswer 1 is-internal-key-kinds.ps is-internal-key-kinds.r is-internal-key-reads.Post (λ κs x y s t. x ≡ y)
+is-internal-key κs a x y s t p q = p ∙ sym q
+
+pub starts-with : OneAnswer 2 starts-with-kinds.ps starts-with-kinds.r starts-with-reads.Post (λ κs x y s t. x ≡ y)
+starts-with κs a x y s t p q = p ∙ sym q

@@ -1,0 +1,78 @@
+-- Numbers in a form: what is read is what is spelled.
+-- Assumes nothing.
+use Prim.Native.Nat.{ℕ, _+_, _<_}
+use mathlib.Core.Path.{_≡_, refl, sym, ap, _∙_}
+use mathlib.Core.List.{List, _++_}
+use native.Mathlib.Omega.{arith}
+use lib.ListN.{length, drop}
+use lib.Seq.{drop-drop, drop-append-seam}
+use borrow.Author.Tests.{eq-eqb}
+use Rattle.codec.specs.declared.NumberRead.{NumberRead}
+use Rattle.codec.specs.declared.NumberRead.the-variants.{Done, Eof, Overflow}
+use Rattle.codec.specs.Number.{readNumber}
+use Rattle.codec.specs.Shortest.{shortest}
+use Rattle.codec.specs.Spelling.{Spells}
+use Rattle.codec.proofs.Spelled.{groups-pos}
+use Rattle.codec.proofs.Theorems.{read-iff-stands, shortest-spells, none-as-short, spells-fits}
+use Rattle.log_item.specs.declared.Form.{Form}
+use Rattle.log_item.specs.declared.Form.the-variants.{Any, Plain}
+use Rattle.log_item.specs.Got.{got}
+use Rattle.log_item.specs.Spelling.{NumberIn}
+use Rattle.log_item.specs.Reading.{numberGot, number}
+use Rattle.log_item.proofs.Holds.{Holds, holds, refuses, after, equal}
+use Rattle.log_item.proofs.Place.{At, Found, Bytes, bytes-at}
+
+-- What a form asks of the list that is read: where the shortest spelling alone is taken, the list is of bytes.
+abbrev pub Asks : Form → List ℕ → Type 0
+Asks Any s = Unit {0}
+Asks Plain s = Bytes s
+
+-- A spelling in the shortest form is a spelling.
+pub plain-any : (n : ℕ) (x : List ℕ) → NumberIn Plain n x → NumberIn Any n x
+plain-any n x h = rw (h .1) (shortest-spells n (h .0))
+
+-- A spelling in either form is a spelling.
+pub in-any : (form : Form) (n : ℕ) (x : List ℕ) → NumberIn form n x → NumberIn Any n x
+in-any Any n x h = h
+in-any Plain n x h = plain-any n x h
+
+-- A spelling has a byte.
+pub number-some : (form : Form) (n : ℕ) (x : List ℕ) → NumberIn form n x → 0 < length x
+number-some form n x h = groups-pos (in-any form n x h .groups)
+
+-- A number in any spelling is read.
+complete-any : {s : List ℕ} {n : ℕ} {x : List ℕ} → Spells n x → {p q : ℕ} → At s p q x → readNumber s p ≡ Done n q
+complete-any {s} {n} {x} h {p} {q} f = read-iff-stands s p n q .1 (record { bytes = x; rest = drop q s; spells = h; there = f .stand; after = f .ends })
+
+-- A number that is spelled at a place is read there.
+pub complete-number : (form : Form) {s : List ℕ} {n : ℕ} {x : List ℕ} → NumberIn form n x → {p q : ℕ} → At s p q x → number form s p ≡ got n q
+unfolding number
+complete-number Any h f = rw (complete-any h f)
+complete-number Plain {n = n} {x = x} h {p} {q} f =
+    let e : q ≡ p + length (shortest n) = f .ends ∙ ap (λ l. p + length l) (h .1) in
+    rw (complete-any (plain-any n x h) f, eq-eqb _ _ e)
+
+-- A number that is read has a spelling there.
+sound-any : (s : List ℕ) (p : ℕ) → Holds (λ n q. Found s (Spells n) p q) (numberGot (readNumber s p))
+sound-any s p = go (readNumber s p) refl
+  where
+    go : (r : NumberRead) → readNumber s p ≡ r → Holds (λ n q. Found s (Spells n) p q) (numberGot r)
+    go (Done n q) e =
+        let h = read-iff-stands s p n q .0 e in
+        let rest : drop q s ≡ h .rest =
+        ap (λ k. drop k s) (h .after) ∙ sym (drop-drop (length (h .bytes)) p s) ∙ ap (drop (length (h .bytes))) (h .there) ∙ drop-append-seam (h .bytes) (h .rest) in
+        let stand : drop p s ≡ h .bytes ++ drop q s = rw rest (h .there) in
+        holds (record { bytes = h .bytes; at = record { stand = stand; ends = h .after }; has = h .spells })
+    go Eof e = refuses
+    go Overflow e = refuses
+
+-- A number that is read at a place is spelled there.
+pub sound-number : (form : Form) (s : List ℕ) → Asks form s → (p : ℕ) → Holds (λ n q. Found s (NumberIn form n) p q) (number form s p)
+unfolding number
+sound-number Any s asks p = sound-any s p
+sound-number Plain s asks p =
+    after (sound-any s p) λ n q f.
+    equal q (p + length (shortest n)) _ _ _ λ e.
+    let bytes : Bytes (f .bytes) = bytes-at (f .at) asks in
+    let short : length (f .bytes) ≡ length (shortest n) = omega (arith, f .at .ends) in
+    holds (record { bytes = f .bytes; at = f .at; has = (spells-fits (f .has) bytes, none-as-short (f .has) bytes short) })

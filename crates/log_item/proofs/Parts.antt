@@ -1,0 +1,153 @@
+-- What the readers of entries, a tail, a content and an item's head come to: a law for each way out of the code.
+-- Assumes nothing.
+use Prim.Native.Nat.{ℕ, suc, _+_, _-_, _≤_, _<_}
+use mathlib.Core.Path.{_≡_, sym, ap, _∙_}
+use mathlib.Core.List.{List}
+use native.Mathlib.Omega.{arith}
+use borrow.Author.Tests.{le-leb, lt-leb, ne-eqb}
+use Rattle.log_item.specs.Got.{got, refused}
+use Rattle.log_item.specs.Entries.{entriesOf}
+use Rattle.log_item.specs.Reading.{byte, number, command, keyValue, firstIndex, entryIndexes, content, head, tail}
+use Rattle.log_item.specs.declared.Form.{Form}
+use Rattle.log_item.specs.declared.Command.{Command}
+use Rattle.log_item.specs.declared.KeyValue.{KeyValue}
+use Rattle.log_item.specs.declared.EntryIndexes.{EntryIndexes}
+use Rattle.log_item.specs.declared.LogItemContent.{LogItemContent}
+use Rattle.log_item.specs.declared.LogItemContent.the-variants as contents
+
+-- what counts down from n
+pub one-more : (n : ℕ) → 0 < n → suc (n - 1) ≡ n
+one-more n h = omega arith
+
+module _ (form : Form) (s : List ℕ) where
+  -- ---- the first index
+
+  pub first-none : {n : ℕ} (p : ℕ) → n ≡ 0 → got (record { count = 0; «first_index» = 0 }) p ≡ firstIndex form s n p
+  unfolding firstIndex
+  first-none p e = rw e
+
+  first-some : (m p i q : ℕ) → number form s p ≡ got i q → i + m ≤ 18446744073709551615
+      → got (record { count = suc m; «first_index» = i }) q ≡ firstIndex form s (suc m) p
+  unfolding firstIndex
+  first-some m p i q e h = rw (e, le-leb _ _ h)
+
+  first-past : (m p i q : ℕ) → number form s p ≡ got i q → 18446744073709551615 < i + m → refused 17 ≡ firstIndex form s (suc m) p
+  unfolding firstIndex
+  first-past m p i q e h = rw (e, lt-leb _ _ h)
+
+  first-short : (m p : ℕ) {r : ℕ} → number form s p ≡ refused r → refused r ≡ firstIndex form s (suc m) p
+  unfolding firstIndex
+  first-short m p e = rw e
+
+  module _ (n p : ℕ) (some : n ≡ 0 → ⊥) where
+    more : suc (n - 1) ≡ n
+    more = one-more n (omega arith)
+
+    pub first-refused : {r : ℕ} → number form s p ≡ refused r → refused r ≡ firstIndex form s n p
+    first-refused e = first-short (n - 1) p e ∙ ap (λ m. firstIndex form s m p) more
+
+    module _ {i q : ℕ} (e : number form s p ≡ got i q) where
+      pub first-done : i + (n - 1) ≤ 18446744073709551615 → got (record { count = n; «first_index» = i }) q ≡ firstIndex form s n p
+      first-done h =
+          ap (λ m. got (record { count = m; «first_index» = i }) q) (sym more)
+          ∙ first-some (n - 1) p i q e h ∙ ap (λ m. firstIndex form s m p) more
+
+      pub first-too-large : 18446744073709551615 < i + (n - 1) → refused 17 ≡ firstIndex form s n p
+      first-too-large h = first-past (n - 1) p i q e h ∙ ap (λ m. firstIndex form s m p) more
+
+  -- ---- a count of entries
+
+  module _ (used p : ℕ) where
+    pub entries-refused : {r : ℕ} → number form s p ≡ refused r → refused r ≡ entryIndexes form s used p
+    unfolding entryIndexes
+    entries-refused e = rw e
+
+    module _ {n q : ℕ} (e : number form s p ≡ got n q) where
+      pub entries-many : 1024 < used + n → refused 14 ≡ entryIndexes form s used p
+      unfolding entryIndexes
+      entries-many h = rw (e, lt-leb _ _ h)
+
+      pub entries-first : used + n ≤ 1024 → firstIndex form s n q ≡ entryIndexes form s used p
+      unfolding entryIndexes
+      entries-first h = rw (e, le-leb _ _ h)
+
+  -- ---- a tail
+
+  module _ (t p : ℕ) where
+    pub tail-refused : {r : ℕ} → number form s p ≡ refused r → refused r ≡ tail form s t p
+    unfolding tail
+    tail-refused e = rw e
+
+    module _ {w q : ℕ} (e : number form s p ≡ got w q) where
+      pub tail-large : 4294967295 < w → refused 16 ≡ tail form s t p
+      unfolding tail
+      tail-large h = rw (e, lt-leb _ _ h)
+
+      pub tail-falls : w ≤ 4294967295 → w < t → refused 15 ≡ tail form s t p
+      unfolding tail
+      tail-falls h k = rw (e, le-leb _ _ h, lt-leb _ _ k)
+
+      pub tail-done : w ≤ 4294967295 → t ≤ w → got w q ≡ tail form s t p
+      unfolding tail
+      tail-done h k = rw (e, le-leb _ _ h, le-leb _ _ k)
+
+  -- ---- a content
+
+  module _ (used b p : ℕ) where
+    module _ (k : b ≡ 1) where
+      pub content-entries : {x : EntryIndexes} {q : ℕ} → entryIndexes form s used p ≡ got x q
+          → got (contents.EntryIndexes x) q ≡ content form s used b p
+      unfolding content
+      content-entries e = rw (k, e)
+
+      pub content-no-entries : {r : ℕ} → entryIndexes form s used p ≡ refused r → refused r ≡ content form s used b p
+      unfolding content
+      content-no-entries e = rw (k, e)
+
+    module _ (k : b ≡ 2) where
+      pub content-command : {x : Command} {q : ℕ} → command form s p ≡ got x q → got (contents.Command x) q ≡ content form s used b p
+      unfolding content
+      content-command e = rw (k, e)
+
+      pub content-no-command : {r : ℕ} → command form s p ≡ refused r → refused r ≡ content form s used b p
+      unfolding content
+      content-no-command e = rw (k, e)
+
+    module _ (k : b ≡ 3) where
+      pub content-key : {x : KeyValue} {q : ℕ} → keyValue form s p ≡ got x q → got (contents.Kv x) q ≡ content form s used b p
+      unfolding content
+      content-key e = rw (k, e)
+
+      pub content-no-key : {r : ℕ} → keyValue form s p ≡ refused r → refused r ≡ content form s used b p
+      unfolding content
+      content-no-key e = rw (k, e)
+
+    pub content-unknown : (b ≡ 1 → ⊥) → (b ≡ 2 → ⊥) → (b ≡ 3 → ⊥) → refused 10 ≡ content form s used b p
+    unfolding content
+    content-unknown k l m = rw (ne-eqb _ _ k, ne-eqb _ _ l, ne-eqb _ _ m)
+
+  -- ---- an item up to its tails
+
+  module _ (used p : ℕ) where
+    pub head-refused : {r : ℕ} → number form s p ≡ refused r → refused r ≡ head form s used p
+    unfolding head
+    head-refused e = rw e
+
+    module _ {g q : ℕ} (e : number form s p ≡ got g q) where
+      pub head-no-type : {r : ℕ} → byte s q ≡ refused r → refused r ≡ head form s used p
+      unfolding head
+      head-no-type f = rw (e, f)
+
+      module _ {b z : ℕ} (f : byte s q ≡ got b z) where
+        pub head-done : {c : LogItemContent} {y : ℕ} → content form s used b z ≡ got c y
+            → got (record { «raft_group_id» = g; content = c }) y ≡ head form s used p
+        unfolding head
+        head-done k = rw (e, f, k)
+
+        pub head-no-content : {r : ℕ} → content form s used b z ≡ refused r → refused r ≡ head form s used p
+        unfolding head
+        head-no-content k = rw (e, f, k)
+
+-- What an item's content states, where the content is known.
+pub stated : {c d : LogItemContent} → c ≡ d → entriesOf d ≡ entriesOf c
+stated e = sym (ap entriesOf e)

@@ -1,0 +1,119 @@
+-- The tails of an item and their rows: that the indexes change neither the total nor the place, what each turn over the tails does,
+-- and what an item comes to.
+-- Assumes nothing.
+use Prim.Native.Nat.{ℕ, zero, suc, _+_, _-_, _<_}
+use mathlib.Core.Path.{_≡_, refl, sym, ap, _∙_}
+use mathlib.Core.List.{List, _∷_}
+use lib.ListN.{length}
+use Rattle.log_item.specs.Got.{Got, got, refused, Reading, done, bind}
+use Rattle.log_item.specs.Entries.{entriesOf}
+use Rattle.log_item.specs.Reading.{Read, head, tail, tails, oneItem}
+use Rattle.log_item.specs.Answers.{Passed, passItem, passTails}
+use Rattle.log_item.specs.declared.Form.{Form}
+use Rattle.log_item.specs.declared.EntryIndex.{EntryIndex}
+use Rattle.log_item.specs.declared.EntryIndexes.{EntryIndexes}
+use Rattle.log_item.specs.declared.LogItem.{LogItem}
+use Rattle.log_item.proofs.Parts.{one-more}
+use Rattle.log_item.proofs.Holds.{Holds, holds, after, later, only, of-got}
+
+-- the total alone
+abbrev pub totalOf : Got (List EntryIndex × ℕ) → Got ℕ
+totalOf (got r q) = got (r .1) q
+totalOf (refused r) = refused r
+
+-- the item x, and n entries with it, where its rows are passed by
+abbrev pub passing : LogItem → ℕ → ℕ → Reading Passed
+passing x n u = done (record { item = x; total = u; used = n })
+
+row-ahead : (x : EntryIndex) (g : Got (List EntryIndex × ℕ)) → totalOf (bind g (λ r. done (x ∷ r .0, r .1))) ≡ totalOf g
+row-ahead x (got r q) = refl
+row-ahead x (refused r) = refl
+
+module _ (form : Form) (s : List ℕ) where
+  pass-total : (n t p : ℕ) → passTails form s n t p ≡ totalOf (tails form s n 0 t p)
+  unfolding passTails
+  pass-total n t p = go (tails form s n 0 t p)
+    where
+      go : (g : Got (List EntryIndex × ℕ)) → bind g (λ r. done (r .1)) ≡ totalOf g
+      go (got r q) = refl
+      go (refused r) = refl
+
+  -- The indexes of the rows change neither the total nor the place.
+  any-index : (n i j t p : ℕ) → totalOf (tails form s n i t p) ≡ totalOf (tails form s n j t p)
+  unfolding tails
+  any-index zero i j t p = refl
+  any-index (suc n) i j t p = go (λ w q. any-index n (i + 1) (j + 1) w q) (tail form s t p)
+    where
+      go : ((w q : ℕ) → totalOf (tails form s n (i + 1) w q) ≡ totalOf (tails form s n (j + 1) w q)) → (g : Got ℕ)
+          → totalOf (bind g (λ w q. bind (tails form s n (i + 1) w q) (λ r. done (record { index = i; «entry_offset» = t; «entry_len» = w - t } ∷ r .0, r .1))))
+          ≡ totalOf (bind g (λ w q. bind (tails form s n (j + 1) w q) (λ r. done (record { index = j; «entry_offset» = t; «entry_len» = w - t } ∷ r .0, r .1))))
+      go ih (got w q) = row-ahead _ (tails form s n (i + 1) w q) ∙ ih w q ∙ sym (row-ahead _ (tails form s n (j + 1) w q))
+      go ih (refused r) = refl
+
+  -- Total and place are those of passing by, with rows from any index on.
+  pub total-pass : (n i t p : ℕ) → totalOf (tails form s n i t p) ≡ passTails form s n t p
+  total-pass n i t p = any-index n i 0 t p ∙ sym (pass-total n t p)
+
+  -- ---- the turns over the tails
+
+  pub pass-end : {n : ℕ} (t p : ℕ) → n ≡ 0 → got t p ≡ passTails form s n t p
+  unfolding passTails tails
+  pass-end t p e = rw e
+
+  pass-suc : (n t p w q : ℕ) → tail form s t p ≡ got w q → totalOf (tails form s (suc n) 0 t p) ≡ totalOf (tails form s n (0 + 1) w q)
+  unfolding tails
+  pass-suc n t p w q e = rw e (row-ahead _ (tails form s n (0 + 1) w q))
+
+  stop-suc : (n t p r : ℕ) → tail form s t p ≡ refused r → totalOf (tails form s (suc n) 0 t p) ≡ refused r
+  unfolding tails
+  stop-suc n t p r e = rw e
+
+  module _ (n t p : ℕ) (some : 0 < n) where
+    pub pass-next : {w q : ℕ} → tail form s t p ≡ got w q → passTails form s (n - 1) w q ≡ passTails form s n t p
+    pass-next {w} {q} e =
+        sym (total-pass (n - 1) (0 + 1) w q) ∙ sym (pass-suc (n - 1) t p w q e) ∙ total-pass (suc (n - 1)) 0 t p
+        ∙ ap (λ m. passTails form s m t p) (one-more n some)
+
+    pub pass-stop : {r : ℕ} → tail form s t p ≡ refused r → refused r ≡ passTails form s n t p
+    pass-stop {r} e =
+        sym (stop-suc (n - 1) t p r e) ∙ total-pass (suc (n - 1)) 0 t p ∙ ap (λ m. passTails form s m t p) (one-more n some)
+
+  -- ---- an item
+
+  -- As many rows as tails.
+  rows-hold : (n i t p : ℕ) → Holds (λ r q. length (r .0) ≡ n) (tails form s n i t p)
+  unfolding tails
+  rows-hold zero i t p = holds refl
+  rows-hold (suc n) i t p = later (tail form s t p) λ w q. after (rows-hold n (i + 1) w q) λ r z h. holds (ap suc h)
+
+  pub rows-length : (n i t p : ℕ) {r : List EntryIndex × ℕ} {q : ℕ} → tails form s n i t p ≡ got r q → length (r .0) ≡ n
+  rows-length n i t p e = of-got (rows-hold n i t p) e
+
+  module _ (used t p : ℕ) where
+    pub item-refused : {r : ℕ} → head form s used p ≡ refused r → refused r ≡ passItem form s used t p
+    unfolding passItem oneItem
+    item-refused e = rw e
+
+    module _ {x : LogItem} {q : ℕ} (e : head form s used p ≡ got x q) {d : EntryIndexes} (k : d ≡ entriesOf (x .content)) where
+      by-rows : (g : Got (List EntryIndex × ℕ)) → Holds (λ r z. length (r .0) ≡ d .count) g
+          → bind {A = Read} {B = Passed} (bind g (λ r. done (record { item = x; rows = r .0; total = r .1 })))
+          (λ r. done (record { item = r .item; total = r .total; used = used + length (r .rows) }))
+          ≡ bind (totalOf g) (passing x (used + d .count))
+      by-rows (got r z) h = rw (only h)
+      by-rows (refused r) h = refl
+
+      -- Its rows, which are as many as it states, are passed by.
+      pub item-rows : passItem form s used t p
+          ≡ bind (passTails form s (d .count) t q) (passing x (used + d .count))
+      unfolding passItem oneItem
+      item-rows =
+          rw (e, ← k)
+          (by-rows (tails form s (d .count) (d .«first_index») t q) (rows-hold (d .count) (d .«first_index») t q)
+          ∙ ap (λ g. bind g (passing x (used + d .count))) (total-pass (d .count) (d .«first_index») t q))
+
+      pub item-done : {u z : ℕ} → passTails form s (d .count) t q ≡ got u z
+          → got (record { item = x; total = u; used = used + d .count }) z ≡ passItem form s used t p
+      item-done f = rw (item-rows, f)
+
+      pub item-no-tails : {r : ℕ} → passTails form s (d .count) t q ≡ refused r → refused r ≡ passItem form s used t p
+      item-no-tails f = rw (item-rows, f)

@@ -1,0 +1,82 @@
+-- Bytes that stand in a list from one place to another, and the reading of one byte.
+-- Assumes nothing.
+use Prim.Native.Nat.{ℕ, zero, suc, _+_, _≤_, _<_}
+use mathlib.Core.Path.{_≡_, refl, sym, ap, _∙_}
+use mathlib.Core.List.{List, [], _∷_, _++_, append-assoc}
+use native.Mathlib.Omega.{arith}
+use native.Mathlib.Numerals.{add-one}
+use lib.Dec.{lit<}
+use lib.ListN.{length, getD, drop, length-append, length-drop}
+use lib.Seq.{drop-cons, drop-drop, drop-append-seam, getD-drop}
+use borrow.Author.Tests.{lt-ltb}
+use Rattle.log_item.specs.Got.{got}
+use Rattle.log_item.specs.Reading.{byte}
+use Rattle.log_item.proofs.Holds.{Holds, holds, below}
+
+-- In s, the bytes stand from the place p up to the place q.
+pub record At (s : List ℕ) (p q : ℕ) (bytes : List ℕ) : Type 0 where
+  pub stand : drop p s ≡ bytes ++ drop q s
+  pub ends : q ≡ p + length bytes
+
+-- Some bytes with a property stand in s from p up to q.
+pub record Found (s : List ℕ) (P : List ℕ → Type 0) (p q : ℕ) : Type 0 where
+  pub bytes : List ℕ
+  pub at : At s p q bytes
+  pub has : P bytes
+
+-- what a `&[u8]` says of its list
+abbrev pub Bytes : List ℕ → Type 0
+Bytes s = (i : ℕ) → getD s i 0 < 256
+
+-- the same of its beginning
+bytes-front : (x y : List ℕ) → Bytes (x ++ y) → Bytes x
+bytes-front [] y b i = lit< tt
+bytes-front (d ∷ x) y b zero = b 0
+bytes-front (d ∷ x) y b (suc i) = bytes-front x y (λ j. b (suc j)) i
+
+-- Bytes with others behind them begin them.
+pub at-front : (x y : List ℕ) → At (x ++ y) 0 (length x) x
+at-front x y = record { stand = rw (drop-append-seam x y); ends = omega arith }
+
+module _ {s : List ℕ} where
+  -- Bytes, and bytes where they end, stand there together.
+  pub join : {p a q : ℕ} {x y : List ℕ} → At s p a x → At s a q y → At s p q (x ++ y)
+  join {x = x} {y = y} f g = record { stand = cc (append-assoc x y (drop _ s)); ends = omega (arith, length-append x y) }
+
+  -- Bytes that stand there together stand there one after the other.
+  pub cut : {p q : ℕ} (x : List ℕ) {y : List ℕ} → At s p q (x ++ y) → At s p (p + length x) x × At s (p + length x) q y
+  cut {p} {q} x {y} f =
+      let e : drop (p + length x) s ≡ y ++ drop q s = sym (drop-drop (length x) p s) ∙ ap (drop (length x)) (f .stand ∙ append-assoc x y (drop q s)) ∙ drop-append-seam x _ in
+      (record { stand = cc (append-assoc x y (drop q s)); ends = refl }, record { stand = e; ends = omega (arith, length-append x y, f .ends) })
+
+  -- No bytes stand at every place.
+  pub nothing : (p : ℕ) → At s p p []
+  nothing p = record { stand = refl; ends = omega arith }
+
+  -- A place of the list holds its byte.
+  pub one-byte : (p : ℕ) → p < length s → At s p (p + 1) (getD s p 0 ∷ [])
+  one-byte p h = record { stand = rw (add-one, drop-cons s p 0); ends = omega arith }
+
+  -- The place after some bytes is in the list.
+  pub inside : {p q : ℕ} {x : List ℕ} → At s p q x → 0 < length x → q ≤ length s
+  inside {p} {q} {x} f some = omega (arith, f .ends, simp (length-drop, length-append) at (ap length (f .stand)))
+
+  -- What stands in a list of bytes is bytes.
+  pub bytes-at : {p q : ℕ} {x : List ℕ} → At s p q x → Bytes s → Bytes x
+  bytes-at {p} {q} {x} f b = bytes-front x (drop q s) (rw (f .stand) at in-drop)
+    where
+      in-drop : Bytes (drop p s)
+      in-drop i = rw getD-drop (b (p + i))
+
+  -- A byte that stands at a place is read there.
+  pub complete-byte : {b p q : ℕ} → At s p q (b ∷ []) → byte s p ≡ got b q
+  unfolding byte
+  complete-byte {b} {p} {q} f =
+      let h : p < length s = omega (arith, f .ends, inside f (omega arith)) in
+      let e : q ≡ p + 1 = f .ends in
+      rw (lt-ltb _ _ h) (cc (drop-cons s p 0 h, f .stand))
+
+-- A byte that is read at a place stands there.
+pub sound-byte : (s : List ℕ) (p : ℕ) → Holds (λ b q. At s p q (b ∷ [])) (byte s p)
+unfolding byte
+sound-byte s p = below p (length s) _ _ _ λ h. holds (one-byte p h)

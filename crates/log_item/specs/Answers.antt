@@ -1,0 +1,87 @@
+-- What each answer of the code says in the words of the definitions. Each loses nothing: two answers that say the same are the same.
+-- Assumes nothing.
+use Prim.Native.Nat.{ℕ, _+_}
+use mathlib.Core.List.{List}
+use Rattle.log_item.specs.declared.EntryIndex.{EntryIndex}
+use lib.ListN.{length}
+use Rattle.log_item.specs.Got.{Got, got, refused, Reading, done, bind, _>>=_}
+use Rattle.log_item.specs.Reading.{Read, tails, oneItem}
+use Rattle.log_item.specs.declared.Form.{Form}
+use Rattle.log_item.specs.declared.Span.{Span}
+use Rattle.log_item.specs.declared.Command.{Command}
+use Rattle.log_item.specs.declared.KeyValue.{KeyValue}
+use Rattle.log_item.specs.declared.EntryIndexes.{EntryIndexes}
+use Rattle.log_item.specs.declared.LogItemContent.{LogItemContent}
+use Rattle.log_item.specs.declared.LogItem.{LogItem}
+use Rattle.log_item.specs.declared.Field.{Field}
+use Rattle.log_item.specs.declared.Field.the-variants as field
+use Rattle.log_item.specs.declared.SpanRead.{SpanRead}
+use Rattle.log_item.specs.declared.SpanRead.the-variants as span
+use Rattle.log_item.specs.declared.CommandRead.{CommandRead}
+use Rattle.log_item.specs.declared.CommandRead.the-variants as command
+use Rattle.log_item.specs.declared.KeyValueRead.{KeyValueRead}
+use Rattle.log_item.specs.declared.KeyValueRead.the-variants as keyValue
+use Rattle.log_item.specs.declared.EntryIndexesRead.{EntryIndexesRead}
+use Rattle.log_item.specs.declared.EntryIndexesRead.the-variants as entries
+use Rattle.log_item.specs.declared.ContentRead.{ContentRead}
+use Rattle.log_item.specs.declared.ContentRead.the-variants as content
+use Rattle.log_item.specs.declared.HeadRead.{HeadRead}
+use Rattle.log_item.specs.declared.HeadRead.the-variants as head
+use Rattle.log_item.specs.declared.TailRead.{TailRead}
+use Rattle.log_item.specs.declared.TailRead.the-variants as tail
+use Rattle.log_item.specs.declared.ItemRead.{ItemRead}
+use Rattle.log_item.specs.declared.ItemRead.the-variants as item
+
+abbrev pub fieldGot : Field → Got ℕ
+fieldGot (field.Done v q) = got v q
+fieldGot (field.Refused r) = refused r
+
+abbrev pub spanGot : SpanRead → Got Span
+spanGot (span.Done x q) = got x q
+spanGot (span.Refused r) = refused r
+
+abbrev pub commandGot : CommandRead → Got Command
+commandGot (command.Done x q) = got x q
+commandGot (command.Refused r) = refused r
+
+abbrev pub keyValueGot : KeyValueRead → Got KeyValue
+keyValueGot (keyValue.Done x q) = got x q
+keyValueGot (keyValue.Refused r) = refused r
+
+abbrev pub entriesGot : EntryIndexesRead → Got EntryIndexes
+entriesGot (entries.Done x q) = got x q
+entriesGot (entries.Refused r) = refused r
+
+abbrev pub contentGot : ContentRead → Got LogItemContent
+contentGot (content.Done x q) = got x q
+contentGot (content.Refused r) = refused r
+
+abbrev pub headGot : HeadRead → Got LogItem
+headGot (head.Done x q) = got x q
+headGot (head.Refused r) = refused r
+
+abbrev pub tailGot : TailRead → Got ℕ
+tailGot (tail.Done u q) = got u q
+tailGot (tail.Refused r) = refused r
+
+-- an item, and the total and the number of entries after it
+pub record Passed : Type 0 where
+  pub item : LogItem
+  pub total : ℕ
+  pub used : ℕ
+
+abbrev pub itemGot : ItemRead → Got Passed
+itemGot (item.Done x q u e) = got (record { item = x; total = u; used = e }) q
+itemGot (item.Refused r) = refused r
+
+-- an item without its rows: how many they are
+unfoldable pub passItem : Form → List ℕ → ℕ → ℕ → Reading Passed
+passItem form s e t = do
+  r ← oneItem form s e t
+  done (record { item = r .item; total = r .total; used = e + length (r .rows) })
+
+-- n tails without their rows: the total after them. The indexes do not matter
+unfoldable pub passTails : Form → List ℕ → ℕ → ℕ → Reading ℕ
+passTails form s n t = do
+  (rows, u) ← tails form s n 0 t
+  done u

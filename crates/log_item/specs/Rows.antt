@@ -1,0 +1,16 @@
+-- How the rows of entries lie: their spans in the block's content, and their indexes.
+-- Assumes nothing.
+use Prim.Native.Nat.{ℕ, _+_}
+use mathlib.Core.Path.{_≡_}
+use mathlib.Core.List.{List, [], _∷_}
+use Rattle.log_item.specs.declared.EntryIndex.{EntryIndex}
+
+-- The entry spans start at t, each where the one before ended, and the last ends at u.
+pub data Joined : ℕ → ℕ → List EntryIndex → Type 0 where
+  end : {t : ℕ} → Joined t t []
+  then : {t u : ℕ} {r : EntryIndex} {rows : List EntryIndex} → r .«entry_offset» ≡ t → Joined (t + r .«entry_len») u rows → Joined t u (r ∷ rows)
+
+-- The indexes are consecutive from i on.
+pub data Consecutive : ℕ → List EntryIndex → Type 0 where
+  end : {i : ℕ} → Consecutive i []
+  then : {i : ℕ} {r : EntryIndex} {rows : List EntryIndex} → r .index ≡ i → Consecutive (i + 1) rows → Consecutive i (r ∷ rows)

@@ -1,0 +1,502 @@
+// One item of a log batch: its types, and reading it at a place of a lent body. From log_batch.rs, EntryIndexes to LogItem.
+//
+// Every public function takes any arguments: a place may lie anywhere, past the end too. A refusal is a number of document 01.
+ghost use mathlib.Core.Path.{_≡_};
+ghost use Prim.Native.Nat.{_-_, min};
+ghost use Rattle.log_item.specs.Entries.{entriesOf};
+ghost use Rattle.log_item.specs.Reading.{number, byte, span, command, putAt, keyValue, firstIndex, entryIndexes, content, head, tail};
+ghost use Rattle.log_item.specs.Answers.{fieldGot, spanGot, commandGot, keyValueGot, entriesGot, contentGot, headGot, tailGot, itemGot, passItem, passTails};
+ghost use Rattle.log_item.specs.Prefix.{prefix, begins, bytesOf};
+use codec::NumberRead;
+
+// What Form::Plain alone refuses. Document 01 has no such number: it is shown to the plain-form test, which answers no.
+const NOT_SHORTEST: u32 = 8;
+
+// A group's log is cleaned, or compacted up to an index.
+pub enum Command {
+    Clean,
+    Compact { index: u64 },
+}
+
+// Where bytes stand in the body.
+pub struct Span {
+    pub at: usize,
+    pub len: usize,
+}
+
+// What is done with a key. A delete has no content.
+pub enum Op {
+    Put { value: Span },
+    Del,
+}
+
+pub struct KeyValue {
+    pub key: Span,
+    pub op: Op,
+}
+
+// How many entries, and the index of the first (0 where there is none). The rows follow in the body as tails.
+pub struct EntryIndexes {
+    pub count: usize,
+    pub first_index: u64,
+}
+
+pub enum LogItemContent {
+    EntryIndexes(EntryIndexes),
+    Command(Command),
+    Kv(KeyValue),
+}
+
+pub struct LogItem {
+    pub raft_group_id: u64,
+    pub content: LogItemContent,
+}
+
+// One entry: its index, and where its bytes stand in the block's content.
+pub struct EntryIndex {
+    pub index: u64,
+    pub entry_offset: u32,
+    pub entry_len: u32,
+}
+
+// Which spellings of a number are taken: any permitted one, or the shortest alone.
+pub enum Form {
+    Any,
+    Plain,
+}
+
+// An item, the place after it, and the total and the number of entries after it; or why it is refused.
+pub enum ItemRead {
+    Done {
+        item: LogItem,
+        next: usize,
+        total: u32,
+        used: usize,
+    },
+    Refused(u32),
+}
+
+// An item up to its tails, and the place after that; or why it is refused.
+pub enum HeadRead {
+    Done { item: LogItem, next: usize },
+    Refused(u32),
+}
+
+// A tail, which is the total after its entry, and the place after it; or why it is refused.
+pub enum TailRead {
+    Done { total: u32, next: usize },
+    Refused(u32),
+}
+
+// A number or a byte, and the place after it; or why it is refused.
+pub enum Field {
+    Done { value: u64, next: usize },
+    Refused(u32),
+}
+
+enum SpanRead {
+    Done { span: Span, next: usize },
+    Refused(u32),
+}
+
+enum CommandRead {
+    Done { command: Command, next: usize },
+    Refused(u32),
+}
+
+enum KeyValueRead {
+    Done { key_value: KeyValue, next: usize },
+    Refused(u32),
+}
+
+enum EntryIndexesRead {
+    Done { entries: EntryIndexes, next: usize },
+    Refused(u32),
+}
+
+enum ContentRead {
+    Done {
+        content: LogItemContent,
+        next: usize,
+    },
+    Refused(u32),
+}
+
+impl LogItem {
+    // The item at a place, with `total` bytes of entries and `used` entries before it in the batch. It stores no rows: they can be
+    // read again from the head on.
+    pub fn decode(buf: &[u8], at: usize, total: u32, used: usize) -> ItemRead
+        ensures { λ r. ⌜ itemGot r ≡ passItem Form.Any (now (buf .entry)) used total at ⌝ }
+    {
+        LogItem::decode_form(buf, at, total, used, Form::Any)
+    }
+
+    // The same where numbers are asked for in a form; what Form::Plain alone refuses, it refuses with 8.
+    pub fn decode_form(buf: &[u8], at: usize, total: u32, used: usize, form: Form) -> ItemRead
+        ensures { λ r. ⌜ itemGot r ≡ passItem form (now (buf .entry)) used total at ⌝ }
+    {
+        match LogItem::decode_head(buf, at, used, form) {
+            HeadRead::Done { item, next } => {
+                let entries = item.entries();
+                let count = entries.count;
+                match skip_tails(buf, next, count, total, form) {
+                    TailRead::Done {
+                        total: after,
+                        next: end,
+                    } => ItemRead::Done {
+                        item,
+                        next: end,
+                        total: after,
+                        used: used + count,
+                    },
+                    TailRead::Refused(number) => ItemRead::Refused(number),
+                }
+            }
+            HeadRead::Refused(number) => ItemRead::Refused(number),
+        }
+    }
+
+    // The item at a place up to its tails, with `used` entries before it in the batch.
+    pub fn decode_head(buf: &[u8], at: usize, used: usize, form: Form) -> HeadRead
+        ensures { λ r. ⌜ headGot r ≡ head form (now (buf .entry)) used at ⌝ }
+    {
+        match read_number(buf, at, form) {
+            Field::Done { value: group, next } => match read_byte(buf, next) {
+                Field::Done {
+                    value: kind,
+                    next: start,
+                } => match read_content(buf, start, used, kind, form) {
+                    ContentRead::Done { content, next: end } => HeadRead::Done {
+                        item: LogItem {
+                            raft_group_id: group,
+                            content,
+                        },
+                        next: end,
+                    },
+                    ContentRead::Refused(number) => HeadRead::Refused(number),
+                },
+                Field::Refused(number) => HeadRead::Refused(number),
+            },
+            Field::Refused(number) => HeadRead::Refused(number),
+        }
+    }
+
+    // The entries that the item states: none where it is a command or a key.
+    pub fn entries(self) -> EntryIndexes
+        ensures { λ r. ⌜ r ≡ entriesOf (self .content) ⌝ }
+    {
+        let content = self.content;
+        match content {
+            LogItemContent::EntryIndexes(entries) => entries,
+            LogItemContent::Command(_) => EntryIndexes {
+                count: 0,
+                first_index: 0,
+            },
+            LogItemContent::Kv(_) => EntryIndexes {
+                count: 0,
+                first_index: 0,
+            },
+        }
+    }
+}
+
+impl EntryIndexes {
+    // The tail at a place, with the total `before` it.
+    pub fn decode_tail(buf: &[u8], at: usize, before: u32, form: Form) -> TailRead
+        ensures { λ r. ⌜ tailGot r ≡ tail form (now (buf .entry)) before at ⌝ }
+    {
+        match read_number(buf, at, form) {
+            Field::Done { value, next } => {
+                if 4294967295 < value {
+                    return TailRead::Refused(refusal::TAIL_TOO_LARGE);
+                }
+                let total = value as u32;
+                if total < before {
+                    return TailRead::Refused(refusal::TAIL_FALLS);
+                }
+                TailRead::Done { total, next }
+            }
+            Field::Refused(number) => TailRead::Refused(number),
+        }
+    }
+
+    // A count of entries, with `used` before them in the batch, and their first index.
+    fn decode(buf: &[u8], at: usize, used: usize, form: Form) -> EntryIndexesRead
+        ensures { λ r. ⌜ entriesGot r ≡ entryIndexes form (now (buf .entry)) used at ⌝ }
+    {
+        match read_number(buf, at, form) {
+            Field::Done { value, next } => {
+                if 1024 < used {
+                    return EntryIndexesRead::Refused(refusal::ENTRIES_TOO_MANY);
+                }
+                if ((1024 - used) as u64) < value {
+                    return EntryIndexesRead::Refused(refusal::ENTRIES_TOO_MANY);
+                }
+                read_first_index(buf, next, value as usize, form)
+            }
+            Field::Refused(number) => EntryIndexesRead::Refused(number),
+        }
+    }
+}
+
+// The first index of `count` entries, where there are any.
+fn read_first_index(buf: &[u8], at: usize, count: usize, form: Form) -> EntryIndexesRead
+    ensures { λ r. ⌜ entriesGot r ≡ firstIndex form (now (buf .entry)) count at ⌝ }
+{
+    if count == 0 {
+        return EntryIndexesRead::Done {
+            entries: EntryIndexes {
+                count: 0,
+                first_index: 0,
+            },
+            next: at,
+        };
+    }
+    match read_number(buf, at, form) {
+        Field::Done {
+            value: first_index,
+            next,
+        } => {
+            if u64::MAX - first_index < (count - 1) as u64 {
+                return EntryIndexesRead::Refused(refusal::INDEX_TOO_LARGE);
+            }
+            EntryIndexesRead::Done {
+                entries: EntryIndexes { count, first_index },
+                next,
+            }
+        }
+        Field::Refused(number) => EntryIndexesRead::Refused(number),
+    }
+}
+
+impl Command {
+    fn decode(buf: &[u8], at: usize, form: Form) -> CommandRead
+        ensures { λ r. ⌜ commandGot r ≡ command form (now (buf .entry)) at ⌝ }
+    {
+        match read_byte(buf, at) {
+            Field::Done { value: kind, next } => {
+                if kind == 1 {
+                    return CommandRead::Done {
+                        command: Command::Clean,
+                        next,
+                    };
+                }
+                if kind == 2 {
+                    return match read_number(buf, next, form) {
+                        Field::Done {
+                            value: index,
+                            next: end,
+                        } => CommandRead::Done {
+                            command: Command::Compact { index },
+                            next: end,
+                        },
+                        Field::Refused(number) => CommandRead::Refused(number),
+                    };
+                }
+                CommandRead::Refused(refusal::COMMAND_UNKNOWN)
+            }
+            Field::Refused(number) => CommandRead::Refused(number),
+        }
+    }
+}
+
+impl KeyValue {
+    fn decode(buf: &[u8], at: usize, form: Form) -> KeyValueRead
+        ensures { λ r. ⌜ keyValueGot r ≡ keyValue form (now (buf .entry)) at ⌝ }
+    {
+        match read_byte(buf, at) {
+            Field::Done { value: op, next } => {
+                if op == 1 {
+                    return read_put(buf, next, form);
+                }
+                if op == 2 {
+                    return match read_span(buf, next, form) {
+                        SpanRead::Done {
+                            span: key,
+                            next: end,
+                        } => KeyValueRead::Done {
+                            key_value: KeyValue { key, op: Op::Del },
+                            next: end,
+                        },
+                        SpanRead::Refused(number) => KeyValueRead::Refused(number),
+                    };
+                }
+                KeyValueRead::Refused(refusal::OP_UNKNOWN)
+            }
+            Field::Refused(number) => KeyValueRead::Refused(number),
+        }
+    }
+}
+
+// A key and its content.
+fn read_put(buf: &[u8], at: usize, form: Form) -> KeyValueRead
+    ensures { λ r. ⌜ keyValueGot r ≡ putAt form (now (buf .entry)) at ⌝ }
+{
+    match read_span(buf, at, form) {
+        SpanRead::Done { span: key, next } => match read_span(buf, next, form) {
+            SpanRead::Done {
+                span: value,
+                next: end,
+            } => KeyValueRead::Done {
+                key_value: KeyValue {
+                    key,
+                    op: Op::Put { value },
+                },
+                next: end,
+            },
+            SpanRead::Refused(number) => KeyValueRead::Refused(number),
+        },
+        SpanRead::Refused(number) => KeyValueRead::Refused(number),
+    }
+}
+
+// The content of an item of a type.
+fn read_content(buf: &[u8], at: usize, used: usize, kind: u64, form: Form) -> ContentRead
+    ensures { λ r. ⌜ contentGot r ≡ content form (now (buf .entry)) used kind at ⌝ }
+{
+    if kind == 1 {
+        return match EntryIndexes::decode(buf, at, used, form) {
+            EntryIndexesRead::Done { entries, next } => ContentRead::Done {
+                content: LogItemContent::EntryIndexes(entries),
+                next,
+            },
+            EntryIndexesRead::Refused(number) => ContentRead::Refused(number),
+        };
+    }
+    if kind == 2 {
+        return match Command::decode(buf, at, form) {
+            CommandRead::Done { command, next } => ContentRead::Done {
+                content: LogItemContent::Command(command),
+                next,
+            },
+            CommandRead::Refused(number) => ContentRead::Refused(number),
+        };
+    }
+    if kind == 3 {
+        return match KeyValue::decode(buf, at, form) {
+            KeyValueRead::Done { key_value, next } => ContentRead::Done {
+                content: LogItemContent::Kv(key_value),
+                next,
+            },
+            KeyValueRead::Refused(number) => ContentRead::Refused(number),
+        };
+    }
+    ContentRead::Refused(refusal::ITEM_TYPE_UNKNOWN)
+}
+
+// Goes over `count` tails: the total and the place after them.
+fn skip_tails(buf: &[u8], at: usize, count: usize, before: u32, form: Form) -> TailRead
+    ensures { λ r. ⌜ tailGot r ≡ passTails form (now (buf .entry)) count before at ⌝ }
+{
+    let mut left = count;
+    let mut total = before;
+    let mut place = at;
+    while 0 < left {
+        match EntryIndexes::decode_tail(buf, place, total, form) {
+            TailRead::Done { total: after, next } => {
+                total = after;
+                place = next;
+                left -= 1;
+            }
+            TailRead::Refused(number) => {
+                return TailRead::Refused(number);
+            }
+        }
+    }
+    TailRead::Done { total, next: place }
+}
+
+// A length and as many bytes: where these stand.
+fn read_span(buf: &[u8], at: usize, form: Form) -> SpanRead
+    ensures { λ r. ⌜ spanGot r ≡ span form (now (buf .entry)) at ⌝ }
+{
+    match read_number(buf, at, form) {
+        Field::Done { value, next } => {
+            if ((buf.len() - next) as u64) < value {
+                return SpanRead::Refused(refusal::SPAN_OUTSIDE);
+            }
+            let len = value as usize;
+            SpanRead::Done {
+                span: Span { at: next, len },
+                next: next + len,
+            }
+        }
+        Field::Refused(number) => SpanRead::Refused(number),
+    }
+}
+
+// The number at a place, in the form asked for; what Form::Plain alone refuses, it refuses with 8.
+pub fn read_number(buf: &[u8], at: usize, form: Form) -> Field
+    ensures { λ r. ⌜ fieldGot r ≡ number form (now (buf .entry)) at ⌝ }
+{
+    match codec::decode_var_u64(buf, at) {
+        NumberRead::Done { value, next } => {
+            if let Form::Plain = form {
+                if next - at != codec::var_u64_len(value) {
+                    return Field::Refused(NOT_SHORTEST);
+                }
+            }
+            Field::Done { value, next }
+        }
+        NumberRead::Eof => Field::Refused(refusal::NUMBER_BROKEN),
+        NumberRead::Overflow => Field::Refused(refusal::NUMBER_BROKEN),
+    }
+}
+
+fn read_byte(buf: &[u8], at: usize) -> Field
+    ensures { λ r. ⌜ fieldGot r ≡ byte (now (buf .entry)) at ⌝ }
+{
+    if at < buf.len() {
+        Field::Done {
+            value: wide(buf[at]),
+            next: at + 1,
+        }
+    } else {
+        Field::Refused(refusal::NUMBER_BROKEN)
+    }
+}
+
+fn wide(b: u8) -> u64
+    ensures { λ r. ⌜ r ≡ b ⌝ }
+{
+    b as u64
+}
+
+// Whether the key begins with the internal prefix.
+pub fn is_internal_key(store: &[u8], key: Span) -> bool
+    ensures { λ r. ⌜ r ≡ begins (bytesOf (now (store .entry)) key) prefix ⌝ }
+{
+    starts_with(store, key, b"__")
+}
+
+// Whether the bytes of a span begin with `start`. Bytes of the span that lie outside the store are not there.
+pub fn starts_with(store: &[u8], span: Span, start: &[u8]) -> bool
+    ensures { λ r. ⌜ r ≡ begins (bytesOf (now (store .entry)) span) (now (start .entry)) ⌝ }
+{
+    let at = span.at;
+    let len = span.len;
+    if there(store.len(), at, len) < start.len() {
+        return false;
+    }
+    let mut i = 0;
+    while i < start.len() {
+        if store[at + i] != start[i] {
+            return false;
+        }
+        i += 1;
+    }
+    true
+}
+
+// How many of `len` bytes from a place on there are among `all`.
+fn there(all: usize, at: usize, len: usize) -> usize
+    ensures { λ r. ⌜ r ≡ min len (all - at) ⌝ }
+{
+    if all < at {
+        return 0;
+    }
+    if all - at < len {
+        return all - at;
+    }
+    len
+}
