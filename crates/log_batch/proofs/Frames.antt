@@ -144,11 +144,12 @@ module _ (s : List ℕ) (signature : ℕ) where
         batch-good k =
             rw (e, le-leb _ _ there, eq-eqb _ _ none) (two-good h q (blockCheck (blockOf h s)) (sealCheck (bodyOf h s) signature) sealed k)
 
-  -- The body of a good batch has more than its footer, and lies in the bytes.
+  -- The body of a good batch has more than its footer, lies in the bytes, and its seal is right.
   pub record Framed (h : LogBatch) : Type 0 where
     pub start : 16 ≤ h .offset
     pub long : h .offset + 4 < h .len
     pub there : h .len ≤ length s
+    pub sealed : sealCheck (bodyOf h s) signature ≡ 0
 
   sealed-holds : (p : ℕ) → Holds (λ h q. Framed h) (sealedBatch s signature p)
   unfolding sealedBatch
@@ -163,6 +164,7 @@ module _ (s : List ℕ) (signature : ℕ) where
         start = k .0;
         long = omega (arith, length-take (h .len - h .offset) (drop (h .offset) s), length-drop (h .offset) s);
         there = there;
+        sealed = body;
       })
 
   pub batch-known : {h : LogBatch} {q : ℕ} → sealedBatch s signature 0 ≡ got h q → Framed h

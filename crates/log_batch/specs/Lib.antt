@@ -2,3 +2,4 @@ pub mod Header
 pub mod Batch
 pub mod View
 pub mod Status
+pub mod Examples

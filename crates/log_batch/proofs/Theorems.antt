@@ -1,0 +1,133 @@
+-- What document 01 says of whole batches and of what is handed back, and its worked examples, proved of the definitions that the contracts cite.
+-- The theorems on bodies and on one item stand in the Theorems.antt of item_batch and codec, and in log_item's Agree.antt.
+-- Assumes nothing.
+use Prim.Native.Nat.{ℕ, _+_, _-_, _≤_}
+use mathlib.Core.Path.{_≡_, refl, ap, ap₂, _∙_}
+use mathlib.Core.List.{List, _++_}
+use native.Mathlib.Omega.{arith}
+use borrow.Author.Tests.{le-leb}
+use lib.ListN.{length, take, drop, length-append, length-drop}
+use lib.Seq.{take-append-seam, take-append-le, drop-append-le}
+use Rattle.codec.specs.Number.{readFrom, readNumber}
+use Rattle.codec.specs.Shortest.{spell, shortest}
+use Rattle.codec.specs.Word.{bigEndian}
+use Rattle.log_item.specs.Got.{Got, got, refused}
+use Rattle.log_item.specs.Reading.{byte, number, span, command, putAt, keyValue, firstIndex, entryIndexes, content, head, tail, tails, oneItem}
+use Rattle.log_item.specs.declared.Span.{Span}
+use Rattle.log_item.specs.declared.LogItem.{LogItem}
+use Rattle.log_item.specs.declared.EntryIndex.{EntryIndex}
+use Rattle.item_batch.specs.Reading.{accepted, rejected}
+use Rattle.item_batch.specs.Body.{readBody}
+use Rattle.item_batch.specs.declared.Wanted.the-variants.{Exactly}
+use Rattle.item_batch.specs.Table.{tableOf, emptyTable, agreeing}
+use Rattle.log_batch.specs.declared.LogBatch.{LogBatch}
+use Rattle.log_batch.specs.Header.{frame, header}
+use Rattle.log_batch.specs.Batch.{blockOf, bodyOf, contentLength, sealedBatch, batchTable, readBatch}
+use Rattle.log_batch.specs.Examples.{AllRight, table}
+use Rattle.log_batch.proofs.Frames.{header-known, batch-known}
+
+-- Document 01's worked examples hold of the definitions, by computation.
+pub table-right : AllRight table
+unfolding readFrom readNumber spell shortest byte number span command putAt keyValue firstIndex entryIndexes content head tail tails oneItem
+table-right = (
+  (refl, refl),
+  (
+    (refl, refl),
+    (
+      (refl, refl),
+      (
+        (refl, refl),
+        (
+          refl,
+          (
+            refl,
+            (
+              refl,
+              (
+                refl,
+                (
+                  refl,
+                  (
+                    refl,
+                    (
+                      refl,
+                      (
+                        refl,
+                        (
+                          refl,
+                          (
+                            refl,
+                            tt,
+                          ),
+                        ),
+                      ),
+                    ),
+                  ),
+                ),
+              ),
+            ),
+          ),
+        ),
+      ),
+    ),
+  ),
+)
+
+-- The list of an accepted answer is returned: the table has as many rows as it states, and they are the list's.
+pub list-returned : (body block : Span) (xs : List LogItem) (rows : List EntryIndex) (u q : ℕ) → let t = tableOf body block (accepted xs rows u q) in
+    (take (t .«item_count») (t .items) ≡ xs) × (take (t .«entry_count») (t .entries) ≡ rows) × (t .total ≡ u) × (t .next ≡ q) × (t .refusal .number ≡ 0)
+unfolding tableOf
+list-returned body block xs rows u q = (take-append-seam xs _, take-append-seam rows _, refl, refl, refl)
+
+-- A refused reading hands back an empty table.
+pub refused-empty : (body block : Span) (r i : ℕ) → tableOf body block (rejected r i) ≡ emptyTable r i
+unfolding tableOf
+refused-empty body block r i = refl
+
+-- The body of a whole batch is read as it is by itself; then its entry total is held to the block's content.
+pub body-read : (s : List ℕ) (signature : ℕ) {h : LogBatch} {q : ℕ} → sealedBatch s signature 0 ≡ got h q
+    → readBatch s signature ≡ tableOf (record { at = h .offset; len = h .len - h .offset }) (record { at = 16; len = h .offset - 16 })
+    (agreeing (Exactly (contentLength (blockOf h s))) (readBody (bodyOf h s) signature))
+unfolding readBatch readBody
+body-read s signature e = rw (e, batch-known s signature e .sealed)
+
+-- Bytes past the length are not looked at.
+module _ (a t : List ℕ) (signature : ℕ) {h : LogBatch} {q : ℕ} (e : header a 0 ≡ got h q) (whole : h .len ≡ length a) where
+  long : length (a ++ t) ≡ length a + length t
+  long = length-append a t
+
+  front : (n m : ℕ) → m + n ≤ length a → take n (drop m (a ++ t)) ≡ take n (drop m a)
+  front n m l =
+      let inside : m ≤ length a = omega arith in
+      let room : n ≤ length (drop m a) = omega (arith, length-drop m a) in
+      rw (drop-append-le m a t inside) (take-append-le n (drop m a) t room)
+
+  same-header : header (a ++ t) 0 ≡ header a 0
+  unfolding header
+  same-header =
+      let k = header-known a e in
+      let some : 16 ≤ length a = omega arith in
+      let more : 16 ≤ length (a ++ t) = omega (arith, long) in
+      rw (le-leb _ _ some, le-leb _ _ more) (ap₂ (λ (x y : List ℕ). frame (bigEndian x) (bigEndian y) 0) (front 8 0 (omega arith)) (front 8 8 (omega arith)))
+
+  same-sealed : sealedBatch (a ++ t) signature 0 ≡ sealedBatch a signature 0
+  unfolding sealedBatch
+  same-sealed =
+      let k = header-known a e in
+      let some : h .len ≤ length a = omega arith in
+      let more : h .len ≤ length (a ++ t) = omega (arith, long) in
+      let block : blockOf h (a ++ t) ≡ blockOf h a = front (h .offset - 16) 16 (omega arith) in
+      let body : bodyOf h (a ++ t) ≡ bodyOf h a = front (h .len - h .offset) (h .offset) (omega arith) in
+      rw (same-header, e, le-leb _ _ some, le-leb _ _ more, block, body)
+
+  pub past-ignored : readBatch (a ++ t) signature ≡ readBatch a signature
+  unfolding readBatch
+  past-ignored = ap (batchTable (a ++ t)) same-sealed ∙ go (sealedBatch a signature 0) refl
+    where
+      go : (g : Got LogBatch) → sealedBatch a signature 0 ≡ g → batchTable (a ++ t) g ≡ batchTable a g
+      go (got x p) f =
+          let k = batch-known a signature f in
+          let block : blockOf x (a ++ t) ≡ blockOf x a = front (x .offset - 16) 16 (omega (arith, k .start, k .long, k .there)) in
+          let body : bodyOf x (a ++ t) ≡ bodyOf x a = front (x .len - x .offset) (x .offset) (omega (arith, k .start, k .long, k .there)) in
+          rw (block, body)
+      go (refused r) f = refl
