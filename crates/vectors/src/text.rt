@@ -1,5 +1,6 @@
 // Words of a line: text, numbers and bytes in hex, each after a space.
 use libc::STDOUT_FILENO;
+use refusal::Refusal;
 
 pub(crate) fn start(word: &[u8]) {
     io::write_all(STDOUT_FILENO, word);
@@ -32,6 +33,12 @@ pub(crate) fn hex(bytes: &[u8]) {
 
 fn one_byte(b: u8) {
     io::print_hex(STDOUT_FILENO, b as u64, 2);
+}
+
+// The number and the item.
+pub(crate) fn refusal(why: Refusal) {
+    number(why.number as u64);
+    number(why.item as u64);
 }
 
 pub(crate) fn end() {
