@@ -7,3 +7,4 @@ pub mod Rows
 pub mod Plain
 pub mod Table
 pub mod Answers
+pub mod Writing

@@ -7,8 +7,11 @@ ghost use Rattle.item_batch.specs.Seal.{sealCheck};
 ghost use Rattle.item_batch.specs.Body.{readBody};
 ghost use Rattle.item_batch.specs.Table.{blankItem, blankEntry, emptyTable, tableOf, agreeing};
 ghost use Rattle.item_batch.specs.Answers.{checkOf, plainBody};
+ghost use Rattle.item_batch.specs.Writing.{BodyWritten};
+ghost use mathlib.Core.Bool.{true, false};
 use codec::NumberRead;
 use codec::U32Read;
+use list_writer::Encoded;
 use log_item::EntryIndex;
 use log_item::EntryIndexes;
 use log_item::Field;
@@ -197,6 +200,53 @@ impl LogItemBatch {
                 return t;
             }
         }
+    }
+}
+
+impl LogItemBatch {
+    // Writes the table's items as a body under a signature, from the start of out on, or leaves out as it was and says why. Of the table
+    // only the items and the lengths of the entry rows count; `store` has the bytes that the items' spans lie in. A put whose key begins
+    // with the internal prefix is refused with 23.
+    pub fn encode(table: LogItemBatch, store: &[u8], signature: u32, out: &mut [u8]) -> Encoded
+        ensures { λ r. ⌜ BodyWritten true table (now (store .entry)) signature (now (out .entry)) r (now (out .exit)) ⌝ }
+    {
+        let items = table.items;
+        let entries = table.entries;
+        list_writer::encode(
+            items,
+            table.item_count,
+            entries,
+            table.entry_count,
+            store,
+            signature,
+            true,
+            out,
+            0,
+        )
+    }
+
+    // The same with any key.
+    pub fn encode_unchecked(
+        table: LogItemBatch,
+        store: &[u8],
+        signature: u32,
+        out: &mut [u8],
+    ) -> Encoded
+        ensures { λ r. ⌜ BodyWritten false table (now (store .entry)) signature (now (out .entry)) r (now (out .exit)) ⌝ }
+    {
+        let items = table.items;
+        let entries = table.entries;
+        list_writer::encode(
+            items,
+            table.item_count,
+            entries,
+            table.entry_count,
+            store,
+            signature,
+            false,
+            out,
+            0,
+        )
     }
 }
 

@@ -1,0 +1,8 @@
+pub mod Stores
+pub mod Lengths
+pub mod Refusals
+pub mod Pieces
+pub mod Tails
+pub mod Items
+pub mod Written
+pub mod Determined

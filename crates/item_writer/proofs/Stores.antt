@@ -1,0 +1,89 @@
+-- Runs of stores, one after the other, and what a function that tests for room answers.
+-- Assumes nothing.
+use Prim.Native.Nat.{ℕ, suc, _+_, _≤_, _<_}
+use mathlib.Core.Path.{_≡_, refl, sym, ap, _∙_}
+use mathlib.Core.Bool.{Bool, true, false}
+use mathlib.Core.List.{List, [], _∷_, _++_}
+use native.Mathlib.Omega.{arith}
+use lib.Dec.{leb}
+use lib.ListN.{length, set, length-append}
+use lib.Seq.{sets, length-sets, sets-eq}
+use borrow.Author.Tests.{le-leb, leb-true, leb-false, not-true, not-false}
+use Rattle.codec.specs.Write.{wroteAt, placed}
+use Rattle.codec.specs.declared.Wrote.{Wrote}
+use Rattle.codec.specs.declared.Wrote.the-variants.{Next, NoRoom}
+use Rattle.codec.proofs.Writing.{no-room, room-for}
+use Rattle.item_writer.specs.Answers.{wroteIf, placedIf}
+use Rattle.item_writer.specs.Private.{Room, Stored, fitted}
+
+sets-append : (bs cs out : List ℕ) (at : ℕ) → sets out at (bs ++ cs) ≡ sets (sets out at bs) (at + length bs) cs
+sets-append [] cs out at = let e : at ≡ at + 0 = omega arith in ap (λ (k : ℕ). sets out k cs) e
+sets-append (b ∷ bs) cs out at =
+    let e : suc at + length bs ≡ at + suc (length bs) = omega arith in
+    sets-append bs cs (set out at b) (suc at) ∙ ap (λ (k : ℕ). sets (sets (set out at b) (suc at) bs) k cs) e
+
+-- Nothing is stored by nothing.
+pub stored-none : (out : List ℕ) (at : ℕ) → Stored out at [] at out
+stored-none out at = record { after = omega arith; stored = refl }
+
+-- One after the other.
+pub stored-then : {out mid later : List ℕ} {at m n : ℕ} {bs cs : List ℕ} → Stored out at bs m mid → Stored mid m cs n later → Stored out at (bs ++ cs) n later
+stored-then {out} {mid} {later} {at} {m} {n} {bs} {cs} p q =
+    record {
+      after = omega (arith, length-append bs cs, p .after, q .after);
+      stored =
+          q .stored ∙ ap (λ (l : List ℕ). sets l m cs) (p .stored) ∙ ap (λ (k : ℕ). sets (sets out at bs) k cs) (p .after)
+          ∙ sym (sets-append bs cs out at);
+    }
+
+pub stored-length : {out later : List ℕ} {at n : ℕ} {bs : List ℕ} → Stored out at bs n later → length later ≡ length out
+stored-length {out} {later} {at} {n} {bs} p = ap length (p .stored) ∙ length-sets out at bs
+
+pub stored-same : {out later : List ℕ} {at n : ℕ} {bs cs : List ℕ} → cs ≡ bs → Stored out at bs n later → Stored out at cs n later
+stored-same e w = rw e w
+
+pub room-same : {out : List ℕ} {at : ℕ} {bs cs : List ℕ} → cs ≡ bs → Room out at cs → Room out at bs
+room-same e h = rw e at h
+
+-- Room for the second, after the first.
+pub room-then : {out mid : List ℕ} {at m : ℕ} {bs : List ℕ} (cs : List ℕ) → Stored out at bs m mid → Room out at (bs ++ cs) → Room mid m cs
+room-then {bs = bs} cs p h = record { fits = omega (arith, length-append bs cs, stored-length p, p .after, h .fits) }
+
+pub room-first : {out : List ℕ} {at : ℕ} (bs cs : List ℕ) → Room out at (bs ++ cs) → Room out at bs
+room-first bs cs h = record { fits = omega (arith, length-append bs cs, h .fits) }
+
+-- What a call that had room did.
+module _ {out later : List ℕ} {at : ℕ} {bs : List ℕ} {r : Wrote} (h : Room out at bs) (p : (r ≡ wroteAt out at bs) × (later ≡ placed out at bs)) where
+  fits : r ≡ Next (at + length bs)
+  fits = simp (le-leb _ _ (h .fits)) at (p .0)
+
+  pub took : {n : ℕ} → r ≡ Next n → Stored out at bs n later
+  took {n} e =
+      let f : r ≡ Next (at + length bs) = fits in
+      record { after = cc; stored = (simp (le-leb _ _ (h .fits)) at (p .1)) ∙ sym (sets-eq bs out at (h .fits)) }
+
+  pub never-short : {n : ℕ} → r ≡ NoRoom → Stored out at bs n later
+  never-short {n} e =
+      let f : r ≡ Next (at + length bs) = fits in
+      let z : _≡_ {A = ℕ} 0 1 = cc in
+      absurd (omega arith)
+
+-- A length, none above the largest number, tells whether bytes fit: no buffer is that long.
+module _ (out bs : List ℕ) (at : ℕ) {n l : ℕ} {r : Bool} (small : length out < 18446744073709551615) (e : length bs ≡ n) (g : l ≡ fitted n) (t : r ≡ leb (at + l) (length out)) where
+  pub room-told : r ≡ true → Room out at bs
+  room-told h = let k : at + l ≤ length out = leb-true _ _ (sym t ∙ h) in record { fits = omega arith }
+
+  pub short-told : r ≡ false → length out < at + length bs
+  short-told h = let k : length out < at + l = leb-false _ _ (sym t ∙ h) in omega arith
+
+-- The answers of a function that tests first whether spans lie in the store.
+module _ (b : Bool) (out : List ℕ) (at : ℕ) (bs : List ℕ) where
+  pub outside-answer : b ≡ false → (NoRoom ≡ wroteIf b out at bs) × (out ≡ placedIf b out at bs)
+  outside-answer e = (rw e, rw e)
+
+  pub short-answer : b ≡ true → length out < at + length bs → (NoRoom ≡ wroteIf b out at bs) × (out ≡ placedIf b out at bs)
+  short-answer e h = let p = no-room out at bs h in (rw e (p .0), rw e (p .1))
+
+  pub stored-answer : {n : ℕ} {later : List ℕ} → b ≡ true → Room out at bs → Stored out at bs n later
+      → (Next n ≡ wroteIf b out at bs) × (later ≡ placedIf b out at bs)
+  stored-answer {n} {later} e h w = let p = room-for out at bs later n (h .fits) (w .stored, w .after) in (rw e (p .0), rw e (p .1))

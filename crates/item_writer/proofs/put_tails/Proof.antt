@@ -1,0 +1,67 @@
+-- `item_writer::put_tails` meets its contract.
+-- Assumes nothing.
+use native.Mathlib.Omega.{arith}
+use Rattle.item_writer.proofs.Tails.{Putting, putting-start, putting-small, putting-room, putting-next, putting-end}
+use Prim.Native.Nat.{_≤_, _-_}
+use lib.ListN.{length}
+use mathlib.Core.Path.{_≡_}
+use borrow.Author.Needs.{needs}
+use Rattle.item_writer.proofs.put_tails.Statement.{statement}
+use Rattle.item_writer.proofs.put_tails.Tie as tie
+
+abbrev Inv-loop : tie.InvT-loop
+Inv-loop lengths count before out₀ start total₀ at₀ i₀ out total at i = Putting lengths count before out₀ start out total at i
+
+abbrev μ-loop : tie.MeasureT-loop
+μ-loop lengths count before out₀ start total₀ at₀ i₀ out total at i = count - i
+
+loop-holds : tie.Need-loop-holds Inv-loop μ-loop
+loop-holds c = putting-start _ _ (c .before .before .pre .0) _ (c .before .before .pre .2)
+
+mul-total : tie.Need-mul-total Inv-loop μ-loop
+mul-total c = search needs
+
+shared-slice-read-total : tie.Need-shared-slice-read-total Inv-loop μ-loop
+shared-slice-read-total c = search needs
+
+add-total : tie.Need-add-total Inv-loop μ-loop
+add-total c = omega (arith, putting-small _ _ (c .before .before .before .before .before .pre .0) (c .before .before .loop .inv) (c .before .loop-test .taken) (c .before .before .before .before .before .pre .1))
+
+cast-put-number : tie.Need-cast-put-number Inv-loop μ-loop
+cast-put-number c = omega (arith, putting-small _ _ (c .before .before .before .before .before .pre .0) (c .before .before .loop .inv) (c .before .loop-test .taken) (c .before .before .before .before .before .pre .1))
+
+put-number-requires : tie.Need-put-number-requires Inv-loop μ-loop
+put-number-requires c κs = putting-room _ _ (c .before .before .before .before .before .before .pre .0) (c .before .before .before .loop .inv) (c .before .before .loop-test .taken)
+
+add-i : tie.Need-add-i Inv-loop μ-loop
+add-i c = search needs
+
+loop-less : tie.Need-loop-less Inv-loop μ-loop
+loop-less c = search needs
+
+loop-again : tie.Need-loop-again Inv-loop μ-loop
+loop-again c = putting-next _ _ (c .before .before .before .before .before .before .before .before .before .pre .0) (c .before .before .before .before .before .before .loop .inv) (c .before .before .before .before .before .loop-test .taken) (c .before .before .put-number .ensures)
+
+same-length : tie.Need-same-length Inv-loop μ-loop
+same-length c = c .before .loop .inv .same
+
+returns : tie.Need-returns Inv-loop μ-loop
+returns c = putting-end _ _ (c .before .before .before .before .pre .0) (c .before .loop .inv) (c .loop-test .left)
+
+pub put-tails-spec : {M : Type 1} → statement M
+put-tails-spec =
+    tie.close
+    (tie.spec
+    Inv-loop
+    μ-loop
+    loop-holds
+    mul-total
+    shared-slice-read-total
+    add-total
+    cast-put-number
+    put-number-requires
+    add-i
+    loop-less
+    loop-again
+    same-length
+    returns)

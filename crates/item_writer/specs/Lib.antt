@@ -1,0 +1,5 @@
+pub mod Bytes
+pub mod Refusing
+pub mod Answers
+pub mod Relocated
+pub mod Private

@@ -1,0 +1,45 @@
+-- Which refusal a writer gives an item: the checks in the order of document 01, each with its number; 0 is none.
+-- Assumes nothing.
+use Prim.Native.Nat.{ℕ, _+_}
+use mathlib.Core.Bool.{Bool, true, false, cond, _&&_}
+use mathlib.Core.List.{List}
+use lib.Dec.{ltb, leb}
+use lib.ListN.{length}
+use Rattle.log_item.specs.Prefix.{prefix, begins, bytesOf}
+use Rattle.log_item.specs.declared.Span.{Span}
+use Rattle.log_item.specs.declared.Op.{Op}
+use Rattle.log_item.specs.declared.Op.the-variants.{Put, Del}
+use Rattle.log_item.specs.declared.EntryIndexes.{EntryIndexes}
+use Rattle.log_item.specs.declared.LogItemContent.{LogItemContent}
+use Rattle.log_item.specs.declared.LogItemContent.the-variants as contents
+
+-- a span lies in the store
+abbrev pub inside : List ℕ → Span → Bool
+inside s k = leb (k .at + k .len) (length s)
+
+-- 14, 13, 17: `used` rows are behind, of `rows` that are lent
+unfoldable pub entriesRefusal : ℕ → ℕ → EntryIndexes → ℕ
+entriesRefusal used rows e =
+    cond (ltb 1024 (used + e .count)) 14
+    (cond (ltb rows (used + e .count)) 13
+    (cond (ltb 18446744073709551616 (e .«first_index» + e .count)) 17 0))
+
+-- 13 for each span, then 23 for a put where keys are looked at
+unfoldable pub keyRefusal : List ℕ → Bool → Span → Op → ℕ
+keyRefusal s checked key (Put v) = cond (inside s key) (cond (inside s v) (cond (checked && begins (bytesOf s key) prefix) 23 0) 13) 13
+keyRefusal s checked key Del = cond (inside s key) 0 13
+
+unfoldable pub contentRefusal : List ℕ → Bool → ℕ → ℕ → LogItemContent → ℕ
+contentRefusal s checked used rows (contents.EntryIndexes e) = entriesRefusal used rows e
+contentRefusal s checked used rows (contents.Command c) = 0
+contentRefusal s checked used rows (contents.Kv k) = keyRefusal s checked (k .key) (k .op)
+
+-- the spans of a content lie in the store
+abbrev pub opInside : List ℕ → Span → Op → Bool
+opInside s key (Put v) = inside s key && inside s v
+opInside s key Del = inside s key
+
+abbrev pub contentInside : List ℕ → LogItemContent → Bool
+contentInside s (contents.EntryIndexes e) = true
+contentInside s (contents.Command c) = true
+contentInside s (contents.Kv k) = opInside s (k .key) (k .op)

@@ -1,0 +1,8 @@
+pub mod Tables
+pub mod Heads
+pub mod Rest
+pub mod Measuring
+pub mod Writing
+pub mod Bodies
+pub mod Written
+pub mod Determined

@@ -1,0 +1,166 @@
+-- What the body writer's answers tell its callers: the length is 0 exactly where a body is refused; what is written is the body, with each item
+-- as it would be written alone and the total running on; and a refused body leaves the buffer as it was.
+-- Assumes nothing.
+use Prim.Native.Nat.{ℕ, zero, suc, _+_, _≤_, _<_}
+use mathlib.Core.Path.{_≡_, refl, sym, ap, _∙_}
+use mathlib.Core.Bool.{Bool, true, false, cond}
+use mathlib.Core.List.{List, [], _∷_, _++_, append-assoc}
+use native.Mathlib.Omega.{arith}
+use lib.Dec.{ltb, leb}
+use lib.ListN.{length, take, drop}
+use borrow.Author.Tests.{eq-eqb, ne-eqb, le-leb, leb-true, ltb-false}
+use Rattle.codec.specs.Shortest.{shortest}
+use Rattle.log_item.specs.Entries.{entriesOf}
+use Rattle.log_item.specs.declared.LogItem.{LogItem}
+use Rattle.item_writer.specs.Bytes.{headBytes, tailsBytes}
+use Rattle.item_writer.specs.Refusing.{contentRefusal}
+use Rattle.item_writer.specs.Answers.{sumOf, rowLengths, itemBytes}
+use Rattle.list_writer.specs.declared.Measured.{Measured}
+use Rattle.list_writer.specs.declared.Encoded.{Encoded}
+use Rattle.list_writer.specs.Bytes.{itemsBytes, listBytes, bodyBytes}
+use Rattle.list_writer.specs.Refusing.{Verdict, fine, refused, unless, tailsVerdict, itemsVerdict, listVerdict}
+use Rattle.list_writer.specs.Answers.{measured, measuredOf, measureOf, encoded, encodedOf, laid}
+use Rattle.list_writer.proofs.Heads.{unless-fine, cond-fine}
+use Rattle.list_writer.proofs.Bodies.{accepted, body-length}
+
+-- ---- items
+
+tails-split : (lengths : List ℕ) (t : ℕ) (rest : ℕ → List ℕ) → tailsBytes lengths t rest ≡ tailsBytes lengths t (λ u. []) ++ rest (sumOf t lengths)
+unfolding tailsBytes sumOf
+tails-split [] t rest = refl
+tails-split (n ∷ lengths) t rest =
+    ap (λ (l : List ℕ). shortest (t + n) ++ l) (tails-split lengths (t + n) rest)
+    ∙ sym (append-assoc (shortest (t + n)) (tailsBytes lengths (t + n) (λ u. [])) (rest (sumOf (t + n) lengths)))
+
+-- An item is written as it would be alone, with the next of the lengths; the total behind its rows goes to the next item.
+pub items-split : (s : List ℕ) (x : LogItem) (xs : List LogItem) (ns : List ℕ) (t : ℕ)
+    → itemsBytes s (x ∷ xs) ns t ≡ itemBytes s x ns t ++ itemsBytes s xs (drop (entriesOf (x .content) .count) ns) (sumOf t (rowLengths x ns))
+unfolding itemsBytes itemBytes
+items-split s x xs ns t =
+    let n = entriesOf (x .content) .count in
+    ap (λ (l : List ℕ). headBytes s x ++ l) (tails-split (take n ns) t (λ u. itemsBytes s xs (drop n ns) u))
+    ∙ sym (append-assoc (headBytes s x) (tailsBytes (take n ns) t (λ u. [])) (itemsBytes s xs (drop n ns) (sumOf t (take n ns))))
+
+tails-fine : (lengths : List ℕ) (k t u : ℕ) (rest : ℕ → Verdict) → t ≤ 4294967295 → tailsVerdict lengths k t rest ≡ fine u
+    → (sumOf t lengths ≤ 4294967295) × (rest (sumOf t lengths) ≡ fine u)
+unfolding tailsVerdict sumOf
+tails-fine [] k t u rest h e = (h, e)
+tails-fine (n ∷ lengths) k t u rest h e =
+    let c = cond-fine (ltb 4294967295 (t + n)) 16 k (tailsVerdict lengths k (t + n) rest) u e in
+    tails-fine lengths k (t + n) u rest (ltb-false 4294967295 (t + n) (c .0)) (c .1)
+
+-- Where no item is refused, the first is not, its tails fit, and the others are not refused behind it.
+pub items-fine : (s : List ℕ) (checked : Bool) (x : LogItem) (xs : List LogItem) (ns : List ℕ) (used k t u : ℕ) → t ≤ 4294967295
+    → itemsVerdict s checked (x ∷ xs) ns used k t ≡ fine u
+    → (contentRefusal s checked used (used + length ns) (x .content) ≡ 0) × (sumOf t (rowLengths x ns) ≤ 4294967295)
+    × (itemsVerdict s checked xs (drop (entriesOf (x .content) .count) ns) (used + entriesOf (x .content) .count) (k + 1) (sumOf t (rowLengths x ns)) ≡ fine u)
+unfolding itemsVerdict
+items-fine s checked x xs ns used k t u h e =
+    let n = entriesOf (x .content) .count in
+    let a = unless-fine (contentRefusal s checked used (used + length ns) (x .content)) k _ u e in
+    let b = tails-fine (take n ns) k t u (λ u. itemsVerdict s checked xs (drop n ns) (used + n) (k + 1) u) h (a .1) in
+    (a .0, b .0, b .1)
+
+-- ---- a refusal's number is not 0
+
+first : (b : Bool) (m k : ℕ) (v : Verdict) (n i : ℕ) → 0 < m → (v ≡ refused n i → 0 < n) → cond b (refused m k) v ≡ refused n i → 0 < n
+first true m k v n i p f h = let q : m ≡ n = cc in omega arith
+first false m k v n i p f h = f h
+
+tails-number : (lengths : List ℕ) (k t : ℕ) (rest : ℕ → Verdict) (n i : ℕ) → ((u : ℕ) → rest u ≡ refused n i → 0 < n)
+    → tailsVerdict lengths k t rest ≡ refused n i → 0 < n
+unfolding tailsVerdict
+tails-number [] k t rest n i f e = f t e
+tails-number (l ∷ lengths) k t rest n i f e = first (ltb 4294967295 (t + l)) 16 k _ n i (omega arith) (λ h. tails-number lengths k (t + l) rest n i f h) e
+
+items-number : (s : List ℕ) (checked : Bool) (xs : List LogItem) (ns : List ℕ) (used k t n i : ℕ) → itemsVerdict s checked xs ns used k t ≡ refused n i → 0 < n
+unfolding itemsVerdict
+items-number s checked [] ns used k t n i e = absurd (let z : _≡_ {A = ℕ} 0 1 = cc in omega arith)
+items-number s checked (x ∷ xs) ns used k t n i e =
+    let c = entriesOf (x .content) .count in
+    go (contentRefusal s checked used (used + length ns) (x .content)) _
+    (λ h. tails-number (take c ns) k t _ n i (λ u g. items-number s checked xs (drop c ns) (used + c) (k + 1) u n i g) h) e
+  where
+    go : (r : ℕ) (v : Verdict) → (v ≡ refused n i → 0 < n) → unless r k v ≡ refused n i → 0 < n
+    go zero v f h = f h
+    go (suc r) v f h = let q : suc r ≡ n = cc in omega arith
+
+list-number : (s : List ℕ) (checked : Bool) (xs : List LogItem) (ns : List ℕ) (n i : ℕ) → listVerdict s checked xs ns ≡ refused n i → 0 < n
+unfolding listVerdict
+list-number s checked xs ns n i e = first (ltb 256 (length xs)) 9 0 _ n i (omega arith) (λ h. items-number s checked xs ns 0 0 0 n i h) e
+
+-- A measure either refuses, with length 0, or does not, with another.
+pub data Measures (m : Measured) : Type 0 where
+  refuses : 0 < m .number → m .length ≡ 0 → Measures m
+  accepts : m .number ≡ 0 → 0 < m .length → Measures m
+
+pub measures : (s : List ℕ) (checked : Bool) (xs : List LogItem) (ns : List ℕ) → Measures (measureOf s checked xs ns)
+unfolding measureOf measuredOf
+measures s checked xs ns = go (listVerdict s checked xs ns) refl
+  where
+    n : ℕ
+    n = length (listBytes s xs ns)
+
+    at-fine : (t : ℕ) (b : Bool) → Measures (cond b (measured 22 0 0 0) (measured 0 0 (n + 4) t))
+    at-fine t true = refuses (omega arith) refl
+    at-fine t false = accepts refl (omega arith)
+
+    go : (v : Verdict) → listVerdict s checked xs ns ≡ v → Measures (measuredOf v n)
+    go (refused a b) e = refuses (list-number s checked xs ns a b e) refl
+    go (fine t) e = at-fine t (ltb 4294967295 (n + 4))
+
+-- ---- what an answer of `encode` tells
+
+-- The body stands at the place, and all else is as it was.
+pub record Written (s : List ℕ) (checked : Bool) (xs : List LogItem) (ns : List ℕ) (signature : ℕ) (out : List ℕ) (at long : ℕ) (later : List ℕ) : Type 0 where
+  pub total : ℕ
+  pub few : length xs ≤ 256
+  pub told : itemsVerdict s checked xs ns 0 0 0 ≡ fine total
+  pub whole : long ≡ length (bodyBytes s xs ns signature)
+  pub fits : at + length (bodyBytes s xs ns signature) ≤ length out
+  pub bytes : later ≡ take at out ++ bodyBytes s xs ns signature ++ drop (at + length (bodyBytes s xs ns signature)) out
+
+-- One of the two: the body is written, or it is refused and nothing is touched.
+pub data Encodes (s : List ℕ) (checked : Bool) (xs : List LogItem) (ns : List ℕ) (signature : ℕ) (out : List ℕ) (at : ℕ) (r : Encoded) (later : List ℕ) : Type 0 where
+  writes : r .number ≡ 0 → 0 < r .length → Written s checked xs ns signature out at (r .length) later → Encodes s checked xs ns signature out at r later
+  leaves : 0 < r .number → r .length ≡ 0 → later ≡ out → Encodes s checked xs ns signature out at r later
+
+pub encodes : (s : List ℕ) (checked : Bool) (xs : List LogItem) (ns : List ℕ) (signature : ℕ) (out : List ℕ) (at : ℕ) {r : Encoded} {later : List ℕ}
+    → r ≡ encodedOf (measureOf s checked xs ns) out at → later ≡ laid r out at (bodyBytes s xs ns signature)
+    → Encodes s checked xs ns signature out at r later
+unfolding encodedOf laid
+encodes s checked xs ns signature out at {r} {later} answer contents = go (measureOf s checked xs ns) refl (measures s checked xs ns)
+  where
+    body : List ℕ
+    body = bodyBytes s xs ns signature
+
+    room : (m : Measured) → m ≡ measureOf s checked xs ns → 0 < m .length → (b : Bool) → leb (at + m .length) (length out) ≡ b
+        → r ≡ cond b (encoded 0 0 (m .length)) (encoded 21 0 0) → Encodes s checked xs ns signature out at r later
+    room m e p true h k =
+        let a = accepted s checked xs ns m e (λ z. omega arith) in
+        let l : length body ≡ m .length = body-length signature a in
+        let fit : at + length body ≤ length out = omega (arith, leb-true (at + m .length) (length out) h) in
+        let long : r .length ≡ m .length = ap (λ (x : Encoded). x .length) k in
+        let some : r .length ≡ 0 → ⊥ = λ z. omega arith in
+        writes (ap (λ (x : Encoded). x .number) k) (omega arith)
+        (record {
+          total = a .total;
+          few = a .few;
+          told = a .told;
+          whole = long ∙ sym l;
+          fits = fit;
+          bytes = contents ∙ (rw (ne-eqb (r .length) 0 some, le-leb (at + length body) (length out) fit));
+        })
+    room m e p false h k =
+        leaves (omega (arith, ap (λ (x : Encoded). x .number) k)) (ap (λ (x : Encoded). x .length) k)
+        (contents ∙ (rw (eq-eqb (r .length) 0 (ap (λ (x : Encoded). x .length) k))))
+
+    go : (m : Measured) → measureOf s checked xs ns ≡ m → Measures m → Encodes s checked xs ns signature out at r later
+    go m e (refuses p q) =
+        let k : r ≡ encoded (m .number) (m .item) 0 = answer ∙ (rw (e, eq-eqb (m .length) 0 q)) in
+        let z : r .length ≡ 0 = ap (λ (x : Encoded). x .length) k in
+        leaves (omega (arith, ap (λ (x : Encoded). x .number) k)) z (contents ∙ (rw (eq-eqb (r .length) 0 z)))
+    go m e (accepts p q) =
+        let some : m .length ≡ 0 → ⊥ = λ z. omega arith in
+        let k : r ≡ cond (leb (at + m .length) (length out)) (encoded 0 0 (m .length)) (encoded 21 0 0) = answer ∙ (rw (e, ne-eqb (m .length) 0 some)) in
+        room m (sym e) q (leb (at + m .length) (length out)) refl k

@@ -1,0 +1,37 @@
+-- What the body writer answers, and what it leaves in the buffer.
+-- Assumes nothing.
+use Prim.Native.Nat.{ℕ, _+_}
+use mathlib.Core.Bool.{Bool, cond}
+use mathlib.Core.List.{List}
+use lib.Dec.{ltb, leb, eqb}
+use lib.ListN.{length}
+use Rattle.codec.specs.Write.{placed}
+use Rattle.log_item.specs.declared.LogItem.{LogItem}
+use Rattle.list_writer.specs.declared.Measured.{Measured}
+use Rattle.list_writer.specs.declared.Encoded.{Encoded}
+use Rattle.list_writer.specs.Bytes.{listBytes}
+use Rattle.list_writer.specs.Refusing.{Verdict, fine, refused, listVerdict}
+
+abbrev pub measured : ℕ → ℕ → ℕ → ℕ → Measured
+measured number item length total = record { number = number; item = item; length = length; total = total }
+
+-- the verdict on a list of n bytes, then 22: the footer has four
+unfoldable pub measuredOf : Verdict → ℕ → Measured
+measuredOf (refused number item) n = measured number item 0 0
+measuredOf (fine total) n = cond (ltb 4294967295 (n + 4)) (measured 22 0 0 0) (measured 0 0 (n + 4) total)
+
+-- the first refusal but 21, or the body's length and the entry total
+unfoldable pub measureOf : List ℕ → Bool → List LogItem → List ℕ → Measured
+measureOf s checked xs lengths = measuredOf (listVerdict s checked xs lengths) (length (listBytes s xs lengths))
+
+abbrev pub encoded : ℕ → ℕ → ℕ → Encoded
+encoded number item length = record { number = number; item = item; length = length }
+
+-- the measure's refusal, then 21: the body does not fit from the place `at` on
+unfoldable pub encodedOf : Measured → List ℕ → ℕ → Encoded
+encodedOf m out at =
+    cond (eqb (m .length) 0) (encoded (m .number) (m .item) 0) (cond (leb (at + m .length) (length out)) (encoded 0 0 (m .length)) (encoded 21 0 0))
+
+-- the bytes at the place, all else as it was; nothing is touched where the body is refused
+unfoldable pub laid : Encoded → List ℕ → ℕ → List ℕ → List ℕ
+laid r out at bs = cond (eqb (r .length) 0) out (placed out at bs)

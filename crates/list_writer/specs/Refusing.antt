@@ -1,0 +1,38 @@
+-- Which refusal a writer gives a list of items: the checks in the order of document 01, but for 22 and 21.
+-- Assumes nothing.
+use Prim.Native.Nat.{ℕ, zero, suc, _+_}
+use mathlib.Core.Bool.{Bool, cond}
+use mathlib.Core.List.{List, [], _∷_}
+use lib.Dec.{ltb}
+use lib.ListN.{length, drop}
+use Rattle.log_item.specs.Entries.{entriesOf}
+use Rattle.log_item.specs.declared.LogItem.{LogItem}
+use Rattle.item_writer.specs.Refusing.{contentRefusal}
+use Rattle.item_writer.specs.Answers.{rowLengths}
+
+-- the entry total; or a refusal's number and its item
+pub data Verdict : Type 0 where
+  fine : (total : ℕ) → Verdict
+  refused : (number item : ℕ) → Verdict
+
+-- where item k is not refused, what follows it
+abbrev pub unless : ℕ → ℕ → Verdict → Verdict
+unless zero k v = v
+unless (suc r) k v = refused (suc r) k
+
+-- 16 for each tail of item k, the total running on, and what follows them
+unfoldable pub tailsVerdict : List ℕ → ℕ → ℕ → (ℕ → Verdict) → Verdict
+tailsVerdict [] k t rest = rest t
+tailsVerdict (n ∷ lengths) k t rest = cond (ltb 4294967295 (t + n)) (refused 16 k) (tailsVerdict lengths k (t + n) rest)
+
+-- the items in order, the first of them with number k: `used` rows are behind, `lengths` are left
+unfoldable pub itemsVerdict : List ℕ → Bool → List LogItem → List ℕ → ℕ → ℕ → ℕ → Verdict
+itemsVerdict s checked [] lengths used k t = fine t
+itemsVerdict s checked (x ∷ xs) lengths used k t =
+    unless (contentRefusal s checked used (used + length lengths) (x .content)) k
+    (tailsVerdict (rowLengths x lengths) k t
+    (λ u. itemsVerdict s checked xs (drop (entriesOf (x .content) .count) lengths) (used + entriesOf (x .content) .count) (k + 1) u))
+
+-- 9, then the items
+unfoldable pub listVerdict : List ℕ → Bool → List LogItem → List ℕ → Verdict
+listVerdict s checked xs lengths = cond (ltb 256 (length xs)) (refused 9 0) (itemsVerdict s checked xs lengths 0 0 0)
