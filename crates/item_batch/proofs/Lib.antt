@@ -9,4 +9,6 @@ pub mod Rows
 pub mod Coming
 pub mod Filling
 pub mod Tables
+pub mod WrittenBytes
+pub mod Written
 pub mod Determined

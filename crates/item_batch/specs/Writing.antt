@@ -1,10 +1,17 @@
--- What writing a table's items as a body answers, and what it leaves in the buffer.
+-- What writing a table's items as a body answers, what it leaves in the buffer, and the list that is read back.
 -- Assumes nothing.
-use Prim.Native.Nat.{ℕ}
+use Prim.Native.Nat.{ℕ, _+_}
 use mathlib.Core.Path.{_≡_}
 use mathlib.Core.Bool.{Bool}
-use mathlib.Core.List.{List}
+use mathlib.Core.List.{List, [], _∷_, _++_, map}
+use lib.ListN.{length, drop}
+use Rattle.codec.specs.Shortest.{shortest}
+use Rattle.log_item.specs.Entries.{entriesOf}
+use Rattle.log_item.specs.Prefix.{bytesOf}
 use Rattle.log_item.specs.declared.LogItem.{LogItem}
+use Rattle.log_item.specs.declared.EntryIndex.{EntryIndex}
+use Rattle.item_writer.specs.Answers as item
+use Rattle.item_writer.specs.Relocated.{itemAt, itemRows, spansOf, numbersOf, Small}
 use Rattle.list_writer.specs.declared.Encoded.{Encoded}
 use Rattle.list_writer.specs.Bytes.{itemsOf, lengthsOf, bodyBytes}
 use Rattle.list_writer.specs.Answers.{measureOf, encodedOf, laid}
@@ -21,3 +28,32 @@ rowLengths t = lengthsOf (t .entries) (t .«entry_count»)
 pub record BodyWritten (checked : Bool) (t : LogItemBatch) (store : List ℕ) (signature : ℕ) (out : List ℕ) (r : Encoded) (later : List ℕ) : Type 0 where
   pub answer : r ≡ encodedOf (measureOf store checked (listed t) (rowLengths t)) out 0
   pub written : later ≡ laid r out 0 (bodyBytes store (listed t) (rowLengths t) signature)
+
+-- the items that are written from the place p on, each with its places worked out afresh: it stands where the one before ended
+unfoldable pub itemsAt : List ℕ → List LogItem → List ℕ → ℕ → ℕ → List LogItem
+itemsAt s [] lengths p t = []
+itemsAt s (x ∷ xs) lengths p t =
+    itemAt p x
+    ∷ itemsAt s xs (drop (entriesOf (x .content) .count) lengths) (p + length (item.itemBytes s x lengths t)) (item.sumOf t (item.rowLengths x lengths))
+
+-- their rows: each item uses the next of the lengths, and the total t runs on
+unfoldable pub rowsAt : List LogItem → List ℕ → ℕ → List EntryIndex
+rowsAt [] lengths t = []
+rowsAt (x ∷ xs) lengths t =
+    itemRows x lengths t ++ rowsAt xs (drop (entriesOf (x .content) .count) lengths) (item.sumOf t (item.rowLengths x lengths))
+
+-- the list of a body: its items stand behind their count, and the total runs from 0
+abbrev pub bodyItems : List ℕ → List LogItem → List ℕ → List LogItem
+bodyItems s xs lengths = itemsAt s xs lengths (length (shortest (length xs))) 0
+
+abbrev pub bodyRows : List LogItem → List ℕ → List EntryIndex
+bodyRows xs lengths = rowsAt xs lengths 0
+
+-- the bytes of each item's key and content, where the spans lie in s
+abbrev pub keysAndContents : List ℕ → List LogItem → List (List (List ℕ))
+keysAndContents s xs = map (λ (x : LogItem). map (bytesOf s) (spansOf (x .content))) xs
+
+-- the numbers of each item are below 2^64
+pub data AllSmall : List LogItem → Type 0 where
+  none : AllSmall []
+  one : {x : LogItem} {xs : List LogItem} → Small (x .«raft_group_id» ∷ numbersOf (x .content)) → AllSmall xs → AllSmall (x ∷ xs)

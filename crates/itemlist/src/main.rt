@@ -44,8 +44,8 @@ fn sums(table: LogItemBatch, out: &mut [u8]) -> usize {
     lines::word(out, at, b"\n")
 }
 
-// The items in order, each with the next rows as its entries. A reading never fills more rows than the table has: that they end there is
-// said again for the proof alone.
+// The items in order, each with the next rows as its entries. A reading never fills more rows than the table has; that neither place
+// passes it is tested for the proof alone.
 fn rows(table: LogItemBatch, out: &mut [u8], start: usize) -> usize {
     let mut at = start;
     let mut i: usize = 0;

@@ -1,25 +1,16 @@
-// Runs known cases and prints one line each. crates/vectors/stdout has what the real crate, the published vectors and document 01 give.
-mod batches;
+// Runs the cases of standard input and prints a line or more for each. crates/vectors/stdin has the cases, and stdout what the published
+// vectors, the real crate and document 01 give.
 mod bodies;
-mod build;
+mod cases;
 mod headers;
-mod marks;
+mod input;
 mod numbers;
-mod plains;
-mod refusals;
+mod statuses;
 mod sums;
 mod tables;
 mod text;
 mod views;
 
 fn main() {
-    sums::run();
-    numbers::run();
-    headers::run();
-    bodies::run();
-    refusals::run();
-    plains::run();
-    batches::run();
-    views::run();
-    marks::run();
+    cases::run();
 }

@@ -1,33 +1,13 @@
-// Numbers at their boundaries, written, read back, and read in every padded form; broken ones; and words.
+// Numbers, written, read back, and read in every padded form; bytes read as a number; and words.
+use crate::input;
 use crate::text;
 use codec::NumberRead;
 use codec::U32Read;
 use codec::U64Read;
 
-pub(crate) fn run() {
-    number(0);
-    number(127);
-    number(128);
-    number(300);
-    number(16_383);
-    number(16_384);
-    number(0xFFFF_FFFF);
-    number(0x8000_0000_0000_0000);
-    number(0xFFFF_FFFF_FFFF_FFFF);
-    read(b"");
-    read(b"\x80");
-    read(b"\xff\xff\xff\xff\xff\xff\xff\xff\xff");
-    read(b"\xff\xff\xff\xff\xff\xff\xff\xff\xff\x02");
-    read(b"\xff\xff\xff\xff\xff\xff\xff\xff\xff\x80");
-    read(b"\x05\x02");
-    word64(0x0102_0304_0506_0708);
-    word64(0xFFFF_FFFF_FFFF_FFFF);
-    word32(0x0102_0304);
-    word32(0xCBF4_3926);
-}
-
 // The shortest form, read back, then each longer form of the same number.
-fn number(n: u64) {
+pub(crate) fn number(line: &[u8]) {
+    let n = input::number(line, 1);
     let mut buf = [0u8; 10];
     let len = codec::var_u64_len(n);
     codec::encode_var_u64(n, &mut buf, 0);
@@ -55,6 +35,12 @@ fn padded(bytes: [u8; 10], len: usize) {
     }
 }
 
+pub(crate) fn bytes(line: &[u8]) {
+    let mut buf = [0u8; 16];
+    let n = input::bytes(line, 1, &mut buf);
+    read(text::front(&buf, n));
+}
+
 fn read(bytes: &[u8]) {
     text::start(b"read");
     text::hex(bytes);
@@ -70,9 +56,9 @@ fn read(bytes: &[u8]) {
 }
 
 // Eight bytes, the word read back from them, and what seven of them give.
-fn word64(w: u64) {
+pub(crate) fn big(line: &[u8]) {
     let mut buf = [0u8; 8];
-    codec::encode_u64(w, &mut buf, 0);
+    codec::encode_u64(input::number(line, 1), &mut buf, 0);
     text::start(b"u64");
     text::hex(&buf);
     read64(&buf);
@@ -91,9 +77,9 @@ fn read64(bytes: &[u8]) {
 }
 
 // Four bytes, the word read back from them, and what three of them give.
-fn word32(w: u32) {
+pub(crate) fn little(line: &[u8]) {
     let mut buf = [0u8; 4];
-    codec::encode_u32_le(w, &mut buf, 0);
+    codec::encode_u32_le(input::short(line, 1), &mut buf, 0);
     text::start(b"u32");
     text::hex(&buf);
     read32(&buf);

@@ -1,55 +1,44 @@
 // The line of a table: its counts, the entry total, the place after the last item, the spans of body and block, items and entries; or the
 // refusal.
+use crate::input;
 use crate::text;
 use item_batch::LogItemBatch;
 use log_item::Command;
 use log_item::EntryIndex;
+use log_item::EntryIndexes;
 use log_item::KeyValue;
 use log_item::LogItem;
 use log_item::LogItemContent;
 use log_item::Op;
 use log_item::Span;
-use refusal::Refusal;
 
-pub(crate) fn line(kind: &[u8], name: &[u8], table: LogItemBatch) {
+pub(crate) fn line(line: &[u8], table: LogItemBatch) {
     let why = table.refusal;
-    if why.number != refusal::NONE {
-        refused(name, why);
-        return;
+    if why.number == refusal::NONE {
+        input::start(line);
+        counts(table);
+        rows(table);
+    } else {
+        text::start(b"refused");
+        text::word(input::word(line, 1));
+        text::refusal(why);
     }
-    counts(kind, name, table);
-    items(table, 0);
-    entries(table, 0);
     text::end();
 }
 
-// The same with the last item and the last entry alone.
-pub(crate) fn last_line(kind: &[u8], name: &[u8], table: LogItemBatch) {
-    let why = table.refusal;
-    if why.number != refusal::NONE {
-        refused(name, why);
-        return;
-    }
-    counts(kind, name, table);
-    items(table, last(table.item_count));
-    entries(table, last(table.entry_count));
-    text::end();
+fn rows(table: LogItemBatch) {
+    let item_rows = table.items;
+    let entry_rows = table.entries;
+    items(item_rows, table.item_count);
+    entries(entry_rows, table.entry_count);
 }
 
-fn last(count: usize) -> usize {
-    if count == 0 { 0 } else { count - 1 }
+// All rows where they are few, else the last alone.
+fn first_shown(count: usize) -> usize {
+    if count <= 8 { 0 } else { count - 1 }
 }
 
-fn refused(name: &[u8], why: Refusal) {
-    text::start(b"refused");
-    text::word(name);
-    text::refusal(why);
-    text::end();
-}
-
-fn counts(kind: &[u8], name: &[u8], table: LogItemBatch) {
-    text::start(kind);
-    text::word(name);
+fn counts(table: LogItemBatch) {
     text::number(table.item_count as u64);
     text::number(table.entry_count as u64);
     text::number(table.total as u64);
@@ -63,26 +52,24 @@ fn span(span: Span) {
     text::number(span.len as u64);
 }
 
-// The items from one on.
-fn items(table: LogItemBatch, first: usize) {
-    let mut i = first;
+fn items(rows: [LogItem; 256], count: usize) {
+    let mut i = first_shown(count);
     while i < 256 {
-        if table.item_count <= i {
+        if count <= i {
             return;
         }
-        item(table.items[i]);
+        item(rows[i]);
         i += 1;
     }
 }
 
-// The entries from one on.
-fn entries(table: LogItemBatch, first: usize) {
-    let mut i = first;
+fn entries(rows: [EntryIndex; 1024], count: usize) {
+    let mut i = first_shown(count);
     while i < 1024 {
-        if table.entry_count <= i {
+        if count <= i {
             return;
         }
-        entry(table.entries[i]);
+        entry(rows[i]);
         i += 1;
     }
 }
@@ -99,14 +86,16 @@ fn item(item: LogItem) {
     text::number(item.raft_group_id);
     let content = item.content;
     match content {
-        LogItemContent::EntryIndexes(entries) => {
-            text::word(b"entries");
-            text::number(entries.count as u64);
-            text::number(entries.first_index);
-        }
+        LogItemContent::EntryIndexes(entries) => entries_words(entries),
         LogItemContent::Command(command) => command_words(command),
         LogItemContent::Kv(key_value) => key_words(key_value),
     }
+}
+
+fn entries_words(entries: EntryIndexes) {
+    text::word(b"entries");
+    text::number(entries.count as u64);
+    text::number(entries.first_index);
 }
 
 fn command_words(command: Command) {

@@ -6,10 +6,13 @@ use Rattle.vectors.proofs.tables.entries.Statement.{statement}
 use Rattle.vectors.proofs.tables.entries.Tie as tie
 
 abbrev Inv-loop : tie.InvT-loop
-Inv-loop first table i₀ i = first ≤ i
+Inv-loop count rows i₀ i = i₀ ≤ i
 
 abbrev μ-loop : tie.MeasureT-loop
-μ-loop first table i₀ i = 1024 - i
+μ-loop count rows i₀ i = 1024 - i
+
+first-shown-requires : tie.Need-first-shown-requires Inv-loop μ-loop
+first-shown-requires c κs = search needs
 
 loop-holds : tie.Need-loop-holds Inv-loop μ-loop
 loop-holds c = search needs
@@ -20,8 +23,8 @@ returns c = search needs
 mul-entry : tie.Need-mul-entry Inv-loop μ-loop
 mul-entry c = search needs
 
-element-copy-out-entry : tie.Need-element-copy-out-entry Inv-loop μ-loop
-element-copy-out-entry c = search needs
+array-copy-out-entry : tie.Need-array-copy-out-entry Inv-loop μ-loop
+array-copy-out-entry c = search needs
 
 entry-requires : tie.Need-entry-requires Inv-loop μ-loop
 entry-requires c κs = search needs
@@ -44,10 +47,11 @@ entries-spec =
     (tie.spec
     Inv-loop
     μ-loop
+    first-shown-requires
     loop-holds
     returns
     mul-entry
-    element-copy-out-entry
+    array-copy-out-entry
     entry-requires
     add-i
     loop-less

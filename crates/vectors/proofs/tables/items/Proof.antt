@@ -6,10 +6,13 @@ use Rattle.vectors.proofs.tables.items.Statement.{statement}
 use Rattle.vectors.proofs.tables.items.Tie as tie
 
 abbrev Inv-loop : tie.InvT-loop
-Inv-loop first table i₀ i = first ≤ i
+Inv-loop count rows i₀ i = i₀ ≤ i
 
 abbrev μ-loop : tie.MeasureT-loop
-μ-loop first table i₀ i = 256 - i
+μ-loop count rows i₀ i = 256 - i
+
+first-shown-requires : tie.Need-first-shown-requires Inv-loop μ-loop
+first-shown-requires c κs = search needs
 
 loop-holds : tie.Need-loop-holds Inv-loop μ-loop
 loop-holds c = search needs
@@ -20,8 +23,8 @@ returns c = search needs
 mul-item : tie.Need-mul-item Inv-loop μ-loop
 mul-item c = search needs
 
-element-copy-out-item : tie.Need-element-copy-out-item Inv-loop μ-loop
-element-copy-out-item c = search needs
+array-copy-out-item : tie.Need-array-copy-out-item Inv-loop μ-loop
+array-copy-out-item c = search needs
 
 item-requires : tie.Need-item-requires Inv-loop μ-loop
 item-requires c κs = search needs
@@ -44,10 +47,11 @@ items-spec =
     (tie.spec
     Inv-loop
     μ-loop
+    first-shown-requires
     loop-holds
     returns
     mul-item
-    element-copy-out-item
+    array-copy-out-item
     item-requires
     add-i
     loop-less

@@ -1,0 +1,93 @@
+-- What is written from a store of bytes is bytes.
+-- Assumes nothing.
+use Prim.Native.Nat.{ℕ, zero, suc, _+_, _*_, _/_, _%_, _^_, _≤_, _<_}
+use mathlib.Core.List.{List, [], _∷_, _++_}
+use native.Mathlib.Omega.{arith}
+use lib.Dec.{lit<}
+use lib.ListN.{drop}
+use Rattle.codec.specs.Shortest.{spell, shortest}
+use Rattle.codec.proofs.Shortest.{spell-one, spell-more, Size, small, large, size, fewer}
+use Rattle.crc.proofs.Laws.{Bytes, bytes-take, bytes-drop}
+use Rattle.log_item.specs.Entries.{typeOf}
+use Rattle.log_item.specs.declared.Span.{Span}
+use Rattle.log_item.specs.declared.Command.the-variants.{Clean, Compact}
+use Rattle.log_item.specs.declared.Op.{Op}
+use Rattle.log_item.specs.declared.Op.the-variants.{Put, Del}
+use Rattle.log_item.specs.declared.LogItemContent.{LogItemContent}
+use Rattle.log_item.specs.declared.LogItemContent.the-variants as contents
+use Rattle.log_item.specs.declared.LogItem.{LogItem}
+use Rattle.item_writer.specs.Bytes.{spanBytes, commandBytes, opBytes, entriesBytes, contentBytes, headBytes, tailsBytes}
+use Rattle.item_writer.specs.Answers.{sumOf, rowLengths, itemBytes}
+use Rattle.item_writer.specs.Relocated.{numbersOf, Small, one}
+use Rattle.item_writer.proofs.Tails.{tailsOf, sum-rises}
+
+-- each is below 256
+pub data AllBytes : List ℕ → Type 0 where
+  end : AllBytes []
+  byte : {b : ℕ} {x : List ℕ} → b < 256 → AllBytes x → AllBytes (b ∷ x)
+
+pub joined : {x y : List ℕ} → AllBytes x → AllBytes y → AllBytes (x ++ y)
+joined end g = g
+joined (byte h f) g = byte h (joined f g)
+
+all-bytes : (x : List ℕ) → Bytes x → AllBytes x
+all-bytes [] f = end
+all-bytes (b ∷ x) f = byte (f 0) (all-bytes x (λ i. f (suc i)))
+
+pub bytes-all : {x : List ℕ} → AllBytes x → Bytes x
+bytes-all end i = lit< tt
+bytes-all (byte h f) zero = h
+bytes-all (byte h f) (suc i) = bytes-all f i
+
+spell-bytes : (room n : ℕ) → n < 2 ^ (1 + 7 * room) → AllBytes (spell room n)
+spell-bytes zero n h = let t : n < 128 = omega arith in rw (spell-one zero n t) (byte {b = n} (omega arith) end)
+spell-bytes (suc room) n h = go (spell-bytes room (n / 128) (fewer room n h)) (size n)
+  where
+    go : AllBytes (spell room (n / 128)) → Size n → AllBytes (spell (suc room) n)
+    go f (small t) = rw (spell-one (suc room) n t) (byte {b = n} (omega arith) end)
+    go f (large t) = rw (spell-more room n t) (byte {b = 128 + n % 128} (omega arith) f)
+
+-- A number of 64 bits is written in bytes.
+pub shortest-bytes : (n : ℕ) → n < 2 ^ 64 → AllBytes (shortest n)
+unfolding shortest
+shortest-bytes n h = spell-bytes 9 n h
+
+tails-bytes : (t : ℕ) (lengths : List ℕ) → sumOf t lengths ≤ 4294967295 → AllBytes (tailsOf lengths t)
+unfolding sumOf tailsBytes
+tails-bytes t [] h = end
+tails-bytes t (n ∷ lengths) h =
+    joined (shortest-bytes (t + n) (omega (arith, sum-rises (t + n) lengths))) (tails-bytes (t + n) lengths h)
+
+module _ (s : List ℕ) (bytes : Bytes s) where
+  span-bytes : (k : Span) → k .len < 2 ^ 64 → AllBytes (spanBytes s k)
+  unfolding spanBytes
+  span-bytes k h = joined (shortest-bytes (k .len) h) (all-bytes _ (bytes-take (k .len) (drop (k .at) s) (bytes-drop (k .at) s bytes)))
+
+  content-bytes : (k : LogItemContent) → Small (numbersOf k) → AllBytes (contentBytes s k)
+  unfolding contentBytes numbersOf commandBytes entriesBytes opBytes
+  content-bytes (contents.EntryIndexes e) (one n (one i z)) = go (e .count) n
+    where
+      go : (m : ℕ) → m < 2 ^ 64 → AllBytes (entriesBytes m (e .«first_index»))
+      go zero b = shortest-bytes 0 b
+      go (suc m) b = joined (shortest-bytes (suc m) b) (shortest-bytes (e .«first_index») i)
+  content-bytes (contents.Command Clean) z = byte (lit< tt) end
+  content-bytes (contents.Command (Compact i)) (one n z) = byte (lit< tt) (shortest-bytes i n)
+  content-bytes (contents.Kv k) z = go (k .op) z
+    where
+      go : (o : Op) → Small (numbersOf (contents.Kv (record { key = k .key; op = o }))) → AllBytes (opBytes s (k .key) o)
+      go (Put v) (one a (one b c)) = byte (lit< tt) (joined (span-bytes (k .key) a) (span-bytes v b))
+      go Del (one a c) = byte (lit< tt) (span-bytes (k .key) a)
+
+  type-byte : (k : LogItemContent) → typeOf k < 256
+  type-byte (contents.EntryIndexes e) = lit< tt
+  type-byte (contents.Command c) = lit< tt
+  type-byte (contents.Kv k) = lit< tt
+
+  -- An item is written in bytes.
+  pub item-bytes : (x : LogItem) (lengths : List ℕ) (t : ℕ) → Small (x .«raft_group_id» ∷ numbersOf (x .content)) → sumOf t (rowLengths x lengths) ≤ 4294967295
+      → AllBytes (itemBytes s x lengths t)
+  unfolding itemBytes headBytes
+  item-bytes x lengths t (one g z) h =
+      joined
+      (joined (shortest-bytes (x .«raft_group_id») g) (byte (type-byte (x .content)) (content-bytes (x .content) z)))
+      (tails-bytes t (rowLengths x lengths) h)

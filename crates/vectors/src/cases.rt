@@ -1,0 +1,57 @@
+// The cases of standard input. A line is a kind, most often a name, and words in hex, `-` for no bytes; a line of another kind is passed
+// over.
+//
+//     crc NAME BYTES
+//     number N                                                    written and read, then padded to each longer form
+//     read BYTES                                                  a number at their start
+//     big N                                                       a word of 64 bits, big-endian
+//     little N                                                    a word of 32 bits, little-endian
+//     header NAME BYTES
+//     items NAME SIGNATURE BYTES                                  a body, whose footer is put behind it here
+//     footed NAME SIGNATURE BYTES                                 a body with its footer
+//     plain NAME BYTES                                            the same, unsigned, asked for its form
+//     whole NAME SIGNATURE BYTES                                  a whole batch
+//     view NAME QUEUE LENGTH PLACE ENTRYLENGTH APPEND REWRITE     queue 0 is append, and both blocks are lent
+//     status NAME LENT BYTES                                      an item, and how many of its bytes are lent
+use crate::bodies;
+use crate::headers;
+use crate::input;
+use crate::numbers;
+use crate::statuses;
+use crate::sums;
+use crate::views;
+use libc::STDIN_FILENO;
+
+pub(crate) fn run() {
+    let mut space = io::large_buffer();
+    let n = io::read_full(STDIN_FILENO, &mut space);
+    lines(&space[..n]);
+}
+
+fn lines(text: &[u8]) {
+    let mut at = 0;
+    while at < text.len() {
+        let end = input::find(text, at, b'\n');
+        if text.len() <= end {
+            return;
+        }
+        line(input::part(text, at, end));
+        at = end + 1;
+    }
+}
+
+fn line(line: &[u8]) {
+    match input::kind(line) {
+        b'c' => sums::case(line),
+        b'n' => numbers::number(line),
+        b'r' => numbers::bytes(line),
+        b'b' => numbers::big(line),
+        b'l' => numbers::little(line),
+        b'h' => headers::case(line),
+        b'i' | b'f' | b'w' => bodies::case(line),
+        b'p' => bodies::plain(line),
+        b'v' => views::case(line),
+        b's' => statuses::case(line),
+        _ => {}
+    }
+}
