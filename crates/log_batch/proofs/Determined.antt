@@ -12,6 +12,10 @@ use Rattle.log_batch.proofs.LogBatch.decode_header.Kinds as decode-head
 use Rattle.log_batch.proofs.LogBatch.decode_header.Reads as decode-header-reads
 use Rattle.log_batch.proofs.LogBatch.decode.Kinds as decode-kinds
 use Rattle.log_batch.proofs.LogBatch.decode.Reads as decode-reads
+use Rattle.log_batch.proofs.LogBatch.encode.Kinds as encode-kinds
+use Rattle.log_batch.proofs.LogBatch.encode.Reads as encode-reads
+use Rattle.log_batch.proofs.LogBatch.encode_unchecked.Kinds as encode-unchecked-kinds
+use Rattle.log_batch.proofs.LogBatch.encode_unchecked.Reads as encode-unchecked-reads
 use Rattle.log_batch.proofs.check_block.Kinds as check-block-kinds
 use Rattle.log_batch.proofs.check_block.Reads as check-block-reads
 use Rattle.log_batch.proofs.entry_view.Kinds as entry-view-kinds
@@ -34,6 +38,12 @@ decode-header κs a x y s t p q = header-same x y (p ∙ sym q)
 
 pub decode : OneAnswer 1 decode-kinds.ps decode-kinds.r decode-reads.Post (λ κs x y s t. x ≡ y)
 decode κs a x y s t p q = p ∙ sym q
+
+pub encode : OneAnswer 3 encode-kinds.ps encode-kinds.r encode-reads.Post (λ κs x y s t. (x ≡ y) × (now (s .1 .1 .1 .1 .0) ≡ now (t .1 .1 .1 .1 .0)))
+encode κs a x y s t p q = let e : x ≡ y = p .answer ∙ sym (q .answer) in (e, p .written ∙ (rw e (sym (q .written))))
+
+pub encode-unchecked : OneAnswer 3 encode-unchecked-kinds.ps encode-unchecked-kinds.r encode-unchecked-reads.Post (λ κs x y s t. (x ≡ y) × (now (s .1 .1 .1 .1 .0) ≡ now (t .1 .1 .1 .1 .0)))
+encode-unchecked κs a x y s t p q = let e : x ≡ y = p .answer ∙ sym (q .answer) in (e, p .written ∙ (rw e (sym (q .written))))
 
 pub check-block : OneAnswer 1 check-block-kinds.ps check-block-kinds.r check-block-reads.Post (λ κs x y s t. x ≡ y)
 check-block κs a x y s t p q = p ∙ sym q

@@ -1,4 +1,7 @@
 pub mod Frames
+pub mod Planning
+pub mod Framing
+pub mod Again
 pub mod Views
 pub mod Marks
 pub mod Determined

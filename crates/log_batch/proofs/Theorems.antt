@@ -1,21 +1,27 @@
 -- What document 01 says of whole batches and of what is handed back, and its worked examples, proved of the definitions that the contracts cite.
 -- The theorems on bodies and on one item stand in the Theorems.antt of item_batch and codec, and in log_item's Agree.antt.
 -- Assumes nothing.
-use Prim.Native.Nat.{ℕ, _+_, _-_, _≤_}
+use Prim.Native.Nat.{ℕ, _+_, _-_, _^_, _≤_, _<_}
 use mathlib.Core.Path.{_≡_, refl, ap, ap₂, _∙_}
-use mathlib.Core.List.{List, _++_}
+use mathlib.Core.Bool.{Bool}
+use mathlib.Core.List.{List, [], _∷_, _++_}
 use native.Mathlib.Omega.{arith}
-use borrow.Author.Tests.{le-leb}
+use borrow.Author.Tests.{le-leb, eq-eqb, ne-eqb}
 use lib.ListN.{length, take, drop, length-append, length-drop}
 use lib.Seq.{take-append-seam, take-append-le, drop-append-le}
 use Rattle.codec.specs.Number.{readFrom, readNumber}
 use Rattle.codec.specs.Shortest.{spell, shortest}
 use Rattle.codec.specs.Word.{bigEndian}
+use Rattle.crc.proofs.Laws.{Bytes}
 use Rattle.log_item.specs.Got.{Got, got, refused}
 use Rattle.log_item.specs.Reading.{byte, number, span, command, putAt, keyValue, firstIndex, entryIndexes, content, head, tail, tails, oneItem}
 use Rattle.log_item.specs.declared.Span.{Span}
 use Rattle.log_item.specs.declared.LogItem.{LogItem}
 use Rattle.log_item.specs.declared.EntryIndex.{EntryIndex}
+use Rattle.list_writer.specs.declared.Encoded.{Encoded}
+use Rattle.list_writer.specs.Bytes.{itemsBytes, listBytes, bodyBytes}
+use Rattle.list_writer.specs.Refusing.{itemsVerdict, listVerdict}
+use Rattle.list_writer.specs.Answers.{measuredOf, measureOf, encoded, laid}
 use Rattle.item_batch.specs.Reading.{accepted, rejected}
 use Rattle.item_batch.specs.Body.{readBody}
 use Rattle.item_batch.specs.declared.Wanted.the-variants.{Exactly}
@@ -23,8 +29,11 @@ use Rattle.item_batch.specs.Table.{tableOf, emptyTable, agreeing}
 use Rattle.log_batch.specs.declared.LogBatch.{LogBatch}
 use Rattle.log_batch.specs.Header.{frame, header}
 use Rattle.log_batch.specs.Batch.{blockOf, bodyOf, contentLength, sealedBatch, batchTable, readBatch}
+use Rattle.log_batch.specs.Written.{blockBytes, framed, frameOf, batchEncoded, BatchWritten}
 use Rattle.log_batch.specs.Examples.{AllRight, table}
 use Rattle.log_batch.proofs.Frames.{header-known, batch-known}
+use Rattle.log_batch.proofs.Framing.{whole}
+use Rattle.log_batch.proofs.Again.{body-good, content-size, block-again, body-again, content-again, sealed-again}
 
 -- Document 01's worked examples hold of the definitions, by computation.
 pub table-right : AllRight table
@@ -131,3 +140,52 @@ module _ (a t : List ℕ) (signature : ℕ) {h : LogBatch} {q : ℕ} (e : header
           let body : bodyOf x (a ++ t) ≡ bodyOf x a = front (x .len - x .offset) (x .offset) (omega (arith, k .start, k .long, k .there)) in
           rw (block, body)
       go (refused r) f = refl
+
+-- Where the whole-batch writer answers a length, the batch stands at the start of the buffer, and behind it what stood there before. Its content
+-- stands after the header. Where content and items are bytes, all below 256, the batch reads as its body does by itself, with the entry total
+-- held to the content.
+module _ {checked : Bool} {xs : List LogItem} {ns s content : List ℕ} {signature : ℕ} {out : List ℕ} {r : Encoded} {later : List ℕ}
+    (w : BatchWritten checked xs ns s content signature out r later) (h : r .length ≡ 0 → ⊥) where
+  abbrev body : List ℕ
+  body = bodyBytes s xs ns signature
+
+  pub batch-stands : later ≡ framed content (bodyBytes s xs ns signature) ++ drop (r .length) out
+  batch-stands = whole w h .bytes
+
+  pub content-stands : take (length content) (drop 16 later) ≡ content
+  content-stands = rw batch-stands (content-again content body (drop (r .length) out))
+
+  pub written-read : Bytes content → Bytes (listBytes s xs ns) → signature < 2 ^ 32
+      → readBatch later signature
+      ≡ tableOf (record { at = 16 + length (blockBytes content); len = length (bodyBytes s xs ns signature) })
+      (record { at = 16; len = length (blockBytes content) })
+      (agreeing (Exactly (length content)) (readBody (bodyBytes s xs ns signature) signature))
+  written-read bytes items key =
+      let t : List ℕ = drop (r .length) out in
+      let k = whole w h in
+      let long : 16 + length (blockBytes content) + length body - (16 + length (blockBytes content)) ≡ length body = omega arith in
+      let block : 16 + length (blockBytes content) - 16 ≡ length (blockBytes content) = omega arith in
+      let size : contentLength (blockOf (frameOf content body) (framed content body ++ t)) ≡ length content =
+      ap contentLength (block-again content body t) ∙ content-size content in
+      let sealed = sealed-again content body t (rw (k .size) at (k .few)) signature bytes (body-good s xs ns signature items key) in
+      ap (λ (l : List ℕ). readBatch l signature) batch-stands ∙ body-read (framed content body ++ t) signature sealed
+      ∙ (rw (size, body-again content body t, long, block))
+
+-- Where the answer has no length, the buffer is as it was.
+pub batch-absent : {checked : Bool} {xs : List LogItem} {ns s content : List ℕ} {signature : ℕ} {out : List ℕ} {r : Encoded} {later : List ℕ}
+    → BatchWritten checked xs ns s content signature out r later → r .length ≡ 0 → later ≡ out
+unfolding laid
+batch-absent {r = r} w h = w .written ∙ (rw (eq-eqb (r .length) 0 h))
+
+-- No items and no content: nothing is refused, and the length is 0. No items with content is 20.
+module _ (s ns : List ℕ) (checked : Bool) (room : ℕ) where
+  pub none-written : batchEncoded (measureOf s checked [] ns) 0 [] room ≡ encoded 0 0 0
+  unfolding batchEncoded
+  none-written = refl
+
+  pub content-alone : (b : ℕ) (bs : List ℕ) → batchEncoded (measureOf s checked [] ns) 0 (b ∷ bs) room ≡ encoded 20 0 0
+  unfolding batchEncoded measureOf measuredOf listVerdict itemsVerdict listBytes itemsBytes shortest spell
+  content-alone b bs =
+      let some : length (b ∷ bs) ≡ 0 → ⊥ = λ z. omega arith in
+      let more : 0 ≡ length (b ∷ bs) → ⊥ = λ z. omega arith in
+      rw (ne-eqb (length (b ∷ bs)) 0 some, ne-eqb 0 (length (b ∷ bs)) more)

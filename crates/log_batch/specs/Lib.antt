@@ -1,5 +1,6 @@
 pub mod Header
 pub mod Batch
+pub mod Written
 pub mod View
 pub mod Status
 pub mod Examples

@@ -1,16 +1,22 @@
-// Whole batches: header, block and body; the bytes of an entry; and the status of an atomic group. From log_batch.rs, LogBatch and
-// AtomicGroupStatus.
+// Whole batches, read and written: header, block and body; the bytes of an entry; and the status of an atomic group. From log_batch.rs,
+// LogBatch and AtomicGroupStatus.
 ghost use mathlib.Core.Path.{_≡_};
-ghost use Prim.Native.Nat.{_≤_, _-_};
+ghost use mathlib.Core.Bool.{true, false};
+ghost use Prim.Native.Nat.{_+_, _≤_, _<_, _-_};
 ghost use lib.ListN.{length, take, drop};
 ghost use Rattle.log_batch.specs.Header.{frame, header, headerGot};
 ghost use Rattle.log_batch.specs.Batch.{blockCheck, sealedBatch, readBatch};
+ghost use Rattle.log_batch.specs.Written.{blockBytes, frontBytes, batchEncoded, BatchWritten};
 ghost use Rattle.item_batch.specs.Seal.{sealCheck};
+ghost use Rattle.item_batch.specs.Writing.{listed, rowLengths};
+ghost use Rattle.item_writer.specs.Private.{Room, Stored};
 ghost use Rattle.log_batch.specs.View.{named, firstOf, viewCheck, viewed};
 ghost use Rattle.log_batch.specs.Status.{inside, isMark, statusByte, markOf, statusOf};
 use codec::U64Read;
 use item_batch::LogItemBatch;
 use item_batch::Wanted;
+use list_writer::Encoded;
+use list_writer::Measured;
 use log_item::LogItem;
 use log_item::LogItemContent;
 use log_item::Op;
@@ -92,6 +98,131 @@ impl LogBatch {
             }
         }
     }
+
+    // Writes the table's items as a whole batch under a signature, from the start of out on, or leaves out as it was and says why. Of the
+    // table only the items and the lengths of the entry rows count; `store` has the bytes that the items' spans lie in, `content` is the
+    // block's. No items and no content: nothing is written, and the length is 0. A put whose key begins with the internal prefix is
+    // refused with 23.
+    pub fn encode(
+        table: LogItemBatch,
+        store: &[u8],
+        content: &[u8],
+        signature: u32,
+        out: &mut [u8],
+    ) -> Encoded
+        ensures { λ r. ⌜ BatchWritten true (listed table) (rowLengths table) (now (store .entry)) (now (content .entry)) signature (now (out .entry)) r (now (out .exit)) ⌝ }
+    {
+        let items = table.items;
+        let count = table.item_count;
+        let entries = table.entries;
+        let rows = table.entry_count;
+        let m = list_writer::measure(items, count, entries, rows, store, true);
+        let r = plan(m, count, content, out.len());
+        if r.length == 0 {
+            return r;
+        }
+        let at = write_front(content, r.length, out);
+        list_writer::encode(items, count, entries, rows, store, signature, true, out, at);
+        r
+    }
+
+    // The same with any key.
+    pub fn encode_unchecked(
+        table: LogItemBatch,
+        store: &[u8],
+        content: &[u8],
+        signature: u32,
+        out: &mut [u8],
+    ) -> Encoded
+        ensures { λ r. ⌜ BatchWritten false (listed table) (rowLengths table) (now (store .entry)) (now (content .entry)) signature (now (out .entry)) r (now (out .exit)) ⌝ }
+    {
+        let items = table.items;
+        let count = table.item_count;
+        let entries = table.entries;
+        let rows = table.entry_count;
+        let m = list_writer::measure(items, count, entries, rows, store, false);
+        let r = plan(m, count, content, out.len());
+        if r.length == 0 {
+            return r;
+        }
+        let at = write_front(content, r.length, out);
+        list_writer::encode(
+            items,
+            count,
+            entries,
+            rows,
+            store,
+            signature,
+            false,
+            out,
+            at,
+        );
+        r
+    }
+}
+
+// The answer to a batch whose body has this measure: every refusal is decided before a byte is written.
+fn plan(m: Measured, items: usize, content: &[u8], room: usize) -> Encoded
+    requires { ⌜ m .length ≤ 4294967295 ⌝ }
+    ensures { λ r. ⌜ r ≡ batchEncoded m items (now (content .entry)) room ⌝ }
+{
+    if items == 0 {
+        if content.len() == 0 {
+            return answer(refusal::NONE, 0, 0);
+        }
+    }
+    if m.length == 0 {
+        return answer(m.number, m.item, 0);
+    }
+    if 2147483647 < m.total {
+        return answer(refusal::OUTPUT_TOO_LONG, 0, 0);
+    }
+    if m.total as usize != content.len() {
+        return answer(refusal::BLOCK_DIFFERS, 0, 0);
+    }
+    let size = body_offset(content) + m.length;
+    if room < size {
+        return answer(refusal::OUTPUT_SHORT, 0, 0);
+    }
+    answer(refusal::NONE, 0, size)
+}
+
+fn answer(number: u32, item: usize, length: usize) -> Encoded
+    ensures { λ r. ⌜ r ≡ record { number = number; item = item; length = length } ⌝ }
+{
+    Encoded {
+        number,
+        item,
+        length,
+    }
+}
+
+// Where the body stands behind a block of this content.
+fn body_offset(content: &[u8]) -> usize
+    requires { ⌜ length (now content) ≤ 2147483647 ⌝ }
+    ensures { λ r. ⌜ r ≡ 16 + length (blockBytes (now (content .entry))) ⌝ }
+{
+    if content.len() == 0 {
+        return LogBatch::HEADER_LEN;
+    }
+    LogBatch::HEADER_LEN + content.len() + LogBatch::CHECKSUM_LEN
+}
+
+// Writes the header of a batch of this length, and the block; answers where the body stands.
+fn write_front(content: &[u8], len: usize, out: &mut [u8]) -> usize
+    requires { ⌜ (length (now content) ≤ 2147483647) × (len < 72057594037927936) × Room (now out) 0 (frontBytes len (now content)) ⌝ }
+    ensures { λ r. ⌜ Stored (now (out .entry)) 0 (frontBytes len (now (content .entry))) r (now (out .exit)) ⌝ }
+{
+    let start = LogBatch::HEADER_LEN;
+    let offset = body_offset(content);
+    codec::encode_u64(len as u64 * 256, out, 0);
+    codec::encode_u64(offset as u64, out, 8);
+    if content.len() == 0 {
+        return offset;
+    }
+    codec::write_bytes(content, out, start);
+    codec::encode_u32_le(crc::crc32(content), out, start + content.len());
+    offset
 }
 
 // What the two words of a header state.

@@ -1,0 +1,137 @@
+-- A batch that was written, read again: its frame, its block, its body and their checksums, whatever stands behind it.
+-- Assumes nothing.
+use Prim.Native.Nat.{ℕ, _+_, _-_, _*_, _/_, _%_, _^_, _≤_, _<_}
+use mathlib.Core.Path.{_≡_, refl, sym, ap, ap₂, _∙_}
+use mathlib.Core.Bool.{Bool, true, false}
+use mathlib.Core.List.{List, [], _∷_, _++_, append-assoc}
+use native.Mathlib.Omega.{arith}
+use native.Mathlib.Nat.{mod-eq-of-lt}
+use lib.Bits.{bitXor, xor-zero-r, xor-lt}
+use lib.Dec.{eqb, lit<}
+use lib.ListN.{length, take, drop, length-append}
+use lib.Seq.{take-at, drop-at, take-append-seam}
+use borrow.Author.Tests.{le-leb, eqb-true, eqb-false}
+use Rattle.codec.specs.Word.{bigEndian, bigEndianBytes, littleEndianBytes}
+use Rattle.codec.specs.Shortest.{shortest}
+use Rattle.codec.proofs.Shortest.{spell-pos}
+use Rattle.codec.proofs.Words.{length-big, length-little, big-endian-back, little-endian-back}
+use Rattle.crc.specs.Crc.{crcOf}
+use Rattle.crc.proofs.Laws.{Bytes, crc-lt}
+use Rattle.log_item.specs.Got.{got}
+use Rattle.log_item.specs.declared.LogItem.{LogItem}
+use Rattle.list_writer.specs.Bytes.{itemsBytes, listBytes, footed, bodyBytes}
+use Rattle.item_batch.specs.Seal.{sealCheck}
+use Rattle.item_batch.proofs.Bodies.{sealed-of}
+use Rattle.log_batch.specs.Header.{frame, header}
+use Rattle.log_batch.specs.Batch.{blockOf, bodyOf, blockCheck, contentLength, sealedBatch}
+use Rattle.log_batch.specs.Written.{blockBytes, headerBytes, frontBytes, framed, frameOf}
+use Rattle.log_batch.proofs.Frames.{frame-good, block-none, block-some, first-passes, batch-good}
+use Rattle.log_batch.proofs.Planning.{filled-block, block-empty, block-filled, header-length, front-length}
+
+-- Bytes and their checksum XOR a signature are a right seal.
+seal-good : (bs : List ℕ) (signature : ℕ) → 0 < length bs → Bytes bs → signature < 2 ^ 32
+    → sealCheck (bs ++ littleEndianBytes 4 (bitXor (crcOf bs) signature)) signature ≡ 0
+seal-good bs signature some bytes small =
+    let word : ℕ = bitXor (crcOf bs) signature in
+    sealed-of bs (littleEndianBytes 4 word) signature some (length-little 4 word) (little-endian-back 4 word (xor-lt 32 (crcOf bs) signature (crc-lt bs bytes) small))
+
+-- So a body that was written is sealed, where its items are bytes, all below 256.
+pub body-good : (s : List ℕ) (xs : List LogItem) (ns : List ℕ) (signature : ℕ) → Bytes (listBytes s xs ns) → signature < 2 ^ 32
+    → sealCheck (bodyBytes s xs ns signature) signature ≡ 0
+unfolding footed listBytes shortest
+body-good s xs ns signature bytes small =
+    seal-good (listBytes s xs ns) signature (omega (arith, spell-pos 9 (length xs), length-append (shortest (length xs)) (itemsBytes s xs ns 0))) bytes small
+
+-- And the bytes of a block pass its check.
+block-good : (content : List ℕ) → Bytes content → blockCheck (blockBytes content) ≡ 0
+block-good content bytes = go (eqb (length content) 0) refl
+  where
+    go : (b : Bool) → eqb (length content) 0 ≡ b → blockCheck (blockBytes content) ≡ 0
+    go true e = let z = eqb-true (length content) 0 e in sym (block-none (blockBytes content) (omega (arith, block-empty content z)))
+    go false e =
+        let some : length content ≡ 0 → ⊥ = eqb-false (length content) 0 e in
+        let whole = filled-block content some in
+        let good = rw (xor-zero-r (crcOf content)) at (seal-good content 0 (omega arith) bytes (lit< tt)) in
+        let long : length (blockBytes content) ≡ 0 → ⊥ = λ z. omega (arith, block-filled content some) in
+        sym (block-some (blockBytes content) long (sym (ap (λ (l : List ℕ). sealCheck l 0) whole ∙ good)))
+
+-- The content of a block is as long as it was.
+pub content-size : (content : List ℕ) → contentLength (blockBytes content) ≡ length content
+content-size content = go (eqb (length content) 0) refl
+  where
+    go : (b : Bool) → eqb (length content) 0 ≡ b → contentLength (blockBytes content) ≡ length content
+    go true e = let z = eqb-true (length content) 0 e in omega (arith, block-empty content z)
+    go false e = omega (arith, block-filled content (eqb-false (length content) 0 e))
+
+-- A block begins with its content.
+content-first : (content rest : List ℕ) → take (length content) (blockBytes content ++ rest) ≡ content
+content-first [] rest = refl
+content-first (b ∷ bs) rest =
+    let word : List ℕ = littleEndianBytes 4 (crcOf (b ∷ bs)) in
+    let whole = filled-block (b ∷ bs) (λ z. omega arith) in
+    ap (λ (l : List ℕ). take (length (b ∷ bs)) (l ++ rest)) whole ∙ ap (take (length (b ∷ bs))) (append-assoc (b ∷ bs) word rest)
+    ∙ take-append-seam (b ∷ bs) (word ++ rest)
+
+module _ (content body t : List ℕ) where
+  abbrev offset : ℕ
+  offset = 16 + length (blockBytes content)
+
+  abbrev len : ℕ
+  len = offset + length body
+
+  block-split : framed content body ++ t ≡ headerBytes len offset ++ (blockBytes content ++ (body ++ t))
+  unfolding framed frontBytes
+  block-split = simp append-assoc
+
+  body-split : framed content body ++ t ≡ frontBytes len content ++ (body ++ t)
+  unfolding framed
+  body-split = append-assoc (frontBytes len content) body t
+
+  whole-length : len ≤ length (framed content body ++ t)
+  whole-length =
+      omega (arith, ap length body-split, length-append (frontBytes len content) (body ++ t), length-append body t, front-length len content)
+
+  pub block-again : blockOf (frameOf content body) (framed content body ++ t) ≡ blockBytes content
+  block-again =
+      let size : length (blockBytes content) ≡ offset - 16 = omega arith in
+      rw (block-split, drop-at (headerBytes len offset) (blockBytes content ++ (body ++ t)) 16 (header-length len offset))
+      (take-at (blockBytes content) (body ++ t) (offset - 16) size)
+
+  pub body-again : bodyOf (frameOf content body) (framed content body ++ t) ≡ body
+  body-again =
+      let size : length body ≡ len - offset = omega arith in
+      rw (body-split, drop-at (frontBytes len content) (body ++ t) offset (front-length len content)) (take-at body t (len - offset) size)
+
+  pub content-again : take (length content) (drop 16 (framed content body ++ t)) ≡ content
+  content-again =
+      rw (block-split, drop-at (headerBytes len offset) (blockBytes content ++ (body ++ t)) 16 (header-length len offset))
+      (content-first content (body ++ t))
+
+  module _ (small : 16 + length (blockBytes content) + length body < 2 ^ 56) where
+    pub header-again : header (framed content body ++ t) 0 ≡ got (frameOf content body) 16
+    unfolding header headerBytes
+    header-again =
+        let rest : List ℕ = blockBytes content ++ (body ++ t) in
+        let a : List ℕ = bigEndianBytes 8 (len * 256) in
+        let b : List ℕ = bigEndianBytes 8 offset in
+        let split : framed content body ++ t ≡ a ++ (b ++ rest) = block-split ∙ append-assoc a b rest in
+        let long : 16 ≤ length (framed content body ++ t) = omega (arith, whole-length) in
+        let first : bigEndian (take 8 (framed content body ++ t)) ≡ len * 256 =
+        ap (λ (l : List ℕ). bigEndian (take 8 l)) split ∙ ap bigEndian (take-at a (b ++ rest) 8 (length-big 8 (len * 256)))
+        ∙ big-endian-back 8 (len * 256) ∙ mod-eq-of-lt (omega arith) in
+        let second : bigEndian (take 8 (drop 8 (framed content body ++ t))) ≡ offset =
+        ap (λ (l : List ℕ). bigEndian (take 8 (drop 8 l))) split
+        ∙ ap (λ (l : List ℕ). bigEndian (take 8 l)) (drop-at a (b ++ rest) 8 (length-big 8 (len * 256)))
+        ∙ ap bigEndian (take-at b rest 8 (length-big 8 offset)) ∙ big-endian-back 8 offset ∙ mod-eq-of-lt (omega arith) in
+        let whole : len * 256 / 256 ≡ len = omega arith in
+        let none : len * 256 % 256 ≡ 0 = omega arith in
+        let good = frame-good (len * 256) offset (omega arith) (omega arith) (omega arith) in
+        rw (le-leb 16 (length (framed content body ++ t)) long)
+        (ap₂ (λ (x y : ℕ). frame x y 0) first second ∙ sym good ∙ ap₂ (λ (x y : ℕ). got (record { offset = offset; len = x; compression = y }) 16) whole none)
+
+    pub sealed-again : (signature : ℕ) → Bytes content → sealCheck body signature ≡ 0
+        → sealedBatch (framed content body ++ t) signature 0 ≡ got (frameOf content body) 16
+    sealed-again signature bytes right =
+        let block = ap blockCheck block-again ∙ block-good content bytes in
+        let sealed = ap (λ (l : List ℕ). sealCheck l signature) body-again ∙ right in
+        sym (batch-good (framed content body ++ t) signature header-again whole-length refl (first-passes _ _ (sym block) refl (sym sealed)) refl)

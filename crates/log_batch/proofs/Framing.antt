@@ -1,0 +1,137 @@
+-- Writing a whole batch: header and block one after the other, the body behind them, and what the contract then tells.
+-- Assumes nothing.
+use Prim.Native.Nat.{ℕ, _+_, _*_, _^_, _≤_, _<_}
+use mathlib.Core.Path.{_≡_, refl, sym, ap, ap₂, _∙_}
+use mathlib.Core.Bool.{Bool}
+use mathlib.Core.List.{List, _++_}
+use native.Mathlib.Omega.{arith}
+use lib.ListN.{length, take, drop, length-append}
+use lib.Seq.{sets-eq}
+use borrow.Author.Tests.{eq-eqb, ne-eqb, le-leb}
+use Rattle.codec.specs.Word.{bigEndianBytes, littleEndianBytes}
+use Rattle.codec.specs.Write.{wroteAt, placed}
+use Rattle.codec.specs.declared.Wrote.{Wrote}
+use Rattle.codec.proofs.Words.{length-big, length-little}
+use Rattle.crc.specs.Crc.{crcOf}
+use Rattle.log_item.specs.declared.LogItem.{LogItem}
+use Rattle.item_writer.specs.Private.{Room, Stored}
+use Rattle.item_writer.proofs.Stores.{stored-then, stored-length, stored-same}
+use Rattle.list_writer.specs.declared.Measured.{Measured}
+use Rattle.list_writer.specs.declared.Encoded.{Encoded}
+use Rattle.list_writer.specs.Bytes.{bodyBytes}
+use Rattle.list_writer.specs.Answers.{measureOf, encoded, encodedOf, laid}
+use Rattle.list_writer.proofs.Bodies.{accepted, body-length}
+use Rattle.log_batch.specs.Written.{blockBytes, headerBytes, frontBytes, framed, batchEncoded, BatchWritten}
+use Rattle.log_batch.proofs.Planning.{empty-block, filled-block, block-empty, block-filled, block-small, front-length, body-small, planned}
+
+-- ---- header and block
+
+stores : {out later : List ℕ} {at n : ℕ} {bs : List ℕ} {r : Wrote} → at + length bs ≤ length out → (r ≡ wroteAt out at bs) × (later ≡ placed out at bs)
+    → n ≡ at + length bs → Stored out at bs n later
+stores {out} {later} {at} {n} {bs} {r} h p e = record { after = e; stored = (simp (le-leb _ _ h) at (p .1)) ∙ sym (sets-eq bs out at h) }
+
+module _ (content out : List ℕ) (len : ℕ) (room : Room out 0 (frontBytes len content)) {offset : ℕ} (there : offset ≡ 16 + length (blockBytes content)) {a b : List ℕ}
+    {p q : Wrote} (first : (p ≡ wroteAt out 0 (bigEndianBytes 8 (len * 256))) × (a ≡ placed out 0 (bigEndianBytes 8 (len * 256))))
+    (second : (q ≡ wroteAt a 8 (bigEndianBytes 8 offset)) × (b ≡ placed a 8 (bigEndianBytes 8 offset))) where
+  enough : 16 + length (blockBytes content) ≤ length out
+  enough = omega (arith, room .fits, front-length len content)
+
+  header-stored : Stored out 0 (headerBytes len offset) 16 b
+  unfolding headerBytes
+  header-stored =
+      let one : Stored out 0 (bigEndianBytes 8 (len * 256)) 8 a =
+      stores (omega (arith, enough, length-big 8 (len * 256))) first (omega (arith, length-big 8 (len * 256))) in
+      stored-then one (stores (omega (arith, enough, length-big 8 offset, stored-length one)) second (omega (arith, length-big 8 offset)))
+
+  with-block : {later : List ℕ} → Stored b 16 (blockBytes content) offset later → Stored out 0 (frontBytes len content) offset later
+  unfolding frontBytes
+  with-block w = stored-same (ap (λ (n : ℕ). headerBytes len n ++ blockBytes content) (sym there)) (stored-then header-stored w)
+
+  pub front-empty : length content ≡ 0 → Stored out 0 (frontBytes len content) offset b
+  front-empty h =
+      with-block (stored-same (empty-block content h) (record { after = there ∙ sym (block-empty content h); stored = refl }))
+
+  pub front-filled : (length content ≡ 0 → ⊥) → {d later : List ℕ} {u v : Wrote} {c : ℕ} → (u ≡ wroteAt b 16 content) × (d ≡ placed b 16 content) → c ≡ crcOf content
+      → (v ≡ wroteAt d (16 + length content) (littleEndianBytes 4 c)) × (later ≡ placed d (16 + length content) (littleEndianBytes 4 c))
+      → Stored out 0 (frontBytes len content) offset later
+  front-filled h {d} {later} {u} {v} {c} third k fourth =
+      let n = block-filled content h in
+      let l = stored-length header-stored in
+      let one : Stored b 16 content (16 + length content) d = stores (omega (arith, enough, n, l)) third refl in
+      let two : Stored d (16 + length content) (littleEndianBytes 4 c) offset later =
+      stores (omega (arith, enough, n, l, stored-length one, length-little 4 c)) fourth (omega (arith, n, there, length-little 4 c)) in
+      let whole : blockBytes content ≡ content ++ littleEndianBytes 4 c = rw k (filled-block content h) in
+      with-block (stored-same whole (stored-then one two))
+
+-- ---- the body behind them
+
+module _ (s : List ℕ) (checked : Bool) (xs : List LogItem) (ns content out : List ℕ) {m : Measured} (same : m ≡ measureOf s checked xs ns)
+    {items : ℕ} (count : length xs ≡ items) {r : Encoded} (told : r ≡ batchEncoded m items content (length out)) where
+  answers : r ≡ batchEncoded (measureOf s checked xs ns) (length xs) content (length out)
+  answers = told ∙ ap₂ (λ (x : Measured) (n : ℕ). batchEncoded x n content (length out)) same (sym count)
+
+  pub batch-left : (signature : ℕ) → r .length ≡ 0 → BatchWritten checked xs ns s content signature out r out
+  unfolding laid
+  batch-left signature h = record { answer = answers; written = rw (eq-eqb (r .length) 0 h) }
+
+  module _ (h : r .length ≡ 0 → ⊥) where
+    pub front-asked : (length content ≤ 2147483647) × (r .length < 72057594037927936) × Room out 0 (frontBytes (r .length) content)
+    front-asked =
+        let k = planned m items content (length out) told h in
+        let small = body-small s checked xs ns same in
+        let block = block-small content in (
+          k .few,
+          omega (arith, k .few, k .size),
+          record { fits = omega (arith, k .size, k .fits, front-length (r .length) content) },
+        )
+
+    pub batch-stored : (signature : ℕ) {mid later : List ℕ} {offset : ℕ} {x : Encoded} → Stored out 0 (frontBytes (r .length) content) offset mid
+        → (x ≡ encodedOf (measureOf s checked xs ns) mid offset) × (later ≡ laid x mid offset (bodyBytes s xs ns signature))
+        → BatchWritten checked xs ns s content signature out r later
+    unfolding encodedOf laid framed
+    batch-stored signature {mid} {later} {offset} {x} front p =
+        let k = planned m items content (length out) told h in
+        let body : List ℕ = bodyBytes s xs ns signature in
+        let l : length body ≡ m .length = body-length signature (accepted s checked xs ns m same (k .some)) in
+        let place : offset ≡ 16 + length (blockBytes content) = omega (arith, front .after, front-length (r .length) content) in
+        let room : offset + m .length ≤ length mid = omega (arith, stored-length front, k .size, k .fits) in
+        let fit : offset + length body ≤ length mid = omega arith in
+        let e : x ≡ encoded 0 0 (m .length) = p .0 ∙ (rw (← same, ne-eqb (m .length) 0 (k .some), le-leb (offset + m .length) (length mid) room)) in
+        let put : later ≡ take offset mid ++ body ++ drop (offset + length body) mid =
+        p .1 ∙ (rw (e, ne-eqb (m .length) 0 (k .some), le-leb (offset + length body) (length mid) fit)) in
+        let behind : Stored mid offset body (offset + length body) later = record { after = refl; stored = put ∙ sym (sets-eq body mid offset fit) } in
+        let long : 16 + length (blockBytes content) + length body ≡ r .length = omega (arith, k .size) in
+        let whole : framed content body ≡ frontBytes (r .length) content ++ body = ap (λ (n : ℕ). frontBytes n content ++ body) long in
+        let w : Stored out 0 (framed content body) (offset + length body) later = stored-same whole (stored-then front behind) in
+        let all : 0 + length (framed content body) ≤ length out = omega (arith, w .after, place, long, k .fits) in
+        record {
+          answer = answers;
+          written =
+              w .stored ∙ sets-eq (framed content body) out 0 all
+              ∙ (rw (ne-eqb (r .length) 0 h, le-leb (0 + length (framed content body)) (length out) all));
+        }
+
+-- What a contract that is met tells, where the answer has a length: the batch stands at the start, and behind it what stood there.
+pub record Whole (content body out : List ℕ) (r : Encoded) (later : List ℕ) : Type 0 where
+  pub size : r .length ≡ 16 + length (blockBytes content) + length body
+  pub few : r .length < 2 ^ 56
+  pub bytes : later ≡ framed content body ++ drop (r .length) out
+
+pub whole : {checked : Bool} {xs : List LogItem} {ns s content : List ℕ} {signature : ℕ} {out : List ℕ} {r : Encoded} {later : List ℕ}
+    → BatchWritten checked xs ns s content signature out r later → (r .length ≡ 0 → ⊥) → Whole content (bodyBytes s xs ns signature) out r later
+unfolding laid framed
+whole {checked} {xs} {ns} {s} {content} {signature} {out} {r} {later} w h =
+    let m : Measured = measureOf s checked xs ns in
+    let k = planned m (length xs) content (length out) (w .answer) h in
+    let body : List ℕ = bodyBytes s xs ns signature in
+    let batch : List ℕ = framed content body in
+    let l : length body ≡ m .length = body-length signature (accepted s checked xs ns m refl (k .some)) in
+    let len : ℕ = 16 + length (blockBytes content) + length body in
+    let long : length batch ≡ len = length-append (frontBytes len content) body ∙ omega (arith, front-length len content) in
+    let same : 0 + length batch ≡ r .length = omega (arith, k .size) in
+    let fit : 0 + length batch ≤ length out = omega (arith, k .fits) in
+    record {
+      size = omega (arith, k .size);
+      few = omega (arith, k .size, body-small s checked xs ns {m = m} refl, block-small content, k .few);
+      bytes = w .written ∙ (rw (ne-eqb (r .length) 0 h, le-leb (0 + length batch) (length out) fit)) ∙ ap (λ (n : ℕ). batch ++ drop n out) same;
+    }
