@@ -5,3 +5,4 @@ pub mod Words
 pub mod Writing
 pub mod Theorems
 pub mod Determined
+pub mod Bytes

@@ -1,22 +1,18 @@
 -- The shortest spelling, digit by digit: that it spells its number, how many digits it has, that none is shorter, that none else is as short, and what fits so many digits.
 -- Assumes nothing.
 use Prim.Native.Nat.{ℕ, zero, suc, _+_, _-_, _*_, _/_, _%_, _^_, _≤_, _<_, suc-le-suc, zero-le}
-use mathlib.Core.Path.{_≡_, refl, sym, ap, _∙_, subst}
+use mathlib.Core.Path.{_≡_, refl, ap, _∙_}
 use mathlib.Core.Logic.{_⊎_, inl, inr, ⊎-elim}
 use mathlib.Core.Bool.{Bool, true, false, cond}
-use mathlib.Core.List.{List, [], _∷_, _++_}
+use mathlib.Core.List.{List, [], _∷_}
 use native.Mathlib.Omega.{arith}
-use native.Mathlib.Nat.{lt-of-lt-of-le, lt-of-le-of-lt, not-le-of-lt, le-trans, lt-of-not-le, le-of-suc-le-suc}
-use native.Mathlib.Numerals.{add-one}
-use lib.Dec.{ltb, lit<}
-use lib.ListN.{length, getD, take, drop, set, length-set}
-use lib.Seq.{drop-append-seam, sets, sets-eq}
+use native.Mathlib.Nat.{not-le-of-lt, lt-of-not-le, le-of-suc-le-suc}
+use lib.Dec.{ltb}
+use lib.ListN.{length, getD}
 use lib.Pow.{pow-add, pow-mono, pow-pos}
-use lib.Bits.{bitOr, bitAnd, or-lt, or-add-and, and-le-l, and-le-r}
-use lib.Count.{leadingZeros, leading-top}
-use borrow.Author.Tests.{lt-ltb, le-ltb, ltb-true, ltb-false, le-leb, lt-leb}
-use Rattle.codec.specs.Spelling.{Groups, last, more, Spells}
-use Rattle.codec.specs.Shortest.{spell, shortest, statedLength}
+use borrow.Author.Tests.{lt-ltb, le-ltb, ltb-true, ltb-false}
+use Rattle.codec.specs.Spelling.{Groups, last, more}
+use Rattle.codec.specs.Shortest.{spell, shortest}
 use Rattle.codec.proofs.Spelled.{groups-pos}
 
 spell-zero : (n : ℕ) → spell zero n ≡ n ∷ []

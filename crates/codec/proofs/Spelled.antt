@@ -2,20 +2,18 @@
 -- Assumes nothing.
 use Prim.Native.Nat.{ℕ, zero, suc, _+_, _-_, _*_, _≤_, _<_, suc-le-suc, zero-le}
 use mathlib.Core.Path.{_≡_, refl, sym, ap, _∙_, subst}
-use mathlib.Core.Logic.{_↔_}
 use mathlib.Core.Bool.{Bool, true, false, cond}
 use mathlib.Core.List.{List, [], _∷_, _++_}
 use native.Mathlib.Omega.{arith}
 use native.Mathlib.Nat.{le-of-suc-le-suc, add-suc, suc-add}
 use native.Mathlib.Numerals.{add-one}
 use lib.Dec.{ltb, leb}
-use lib.ListN.{length, getD, take, drop, length-drop, length-append}
-use lib.Seq.{take-append-seam}
-use borrow.Author.Tests.{lt-ltb, le-ltb, le-leb, lt-leb, ltb-true, ltb-false, leb-true, leb-false}
+use lib.ListN.{length, getD}
+use borrow.Author.Tests.{lt-ltb, le-ltb, le-leb, ltb-true, ltb-false, leb-true}
 use Rattle.codec.specs.declared.NumberRead.{NumberRead}
 use Rattle.codec.specs.declared.NumberRead.the-variants.{Done, Eof, Overflow}
-use Rattle.codec.specs.Spelling.{Groups, last, more, Spells, Stands}
-use Rattle.codec.specs.Number.{under, readFrom, readNumber}
+use Rattle.codec.specs.Spelling.{Groups, last, more}
+use Rattle.codec.specs.Number.{under, readFrom}
 
 -- What is spelled is read, whatever follows.
 pub read-groups : (room : ℕ) {n : ℕ} {bs : List ℕ} → Groups n bs → length bs ≤ suc room → getD bs room 0 ≤ 1 → (rest : List ℕ) (p : ℕ)

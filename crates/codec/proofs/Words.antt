@@ -12,9 +12,7 @@ use lib.Seq.{drop-cons}
 use lib.Arith.{mod-mul}
 use lib.Pow.{shl-exact}
 use borrow.Author.Tests.{le-leb, lt-leb, leb-true, leb-false}
-use Rattle.codec.specs.declared.U64Read.{U64Read}
 use Rattle.codec.specs.declared.U64Read.the-variants as u64
-use Rattle.codec.specs.declared.U32Read.{U32Read}
 use Rattle.codec.specs.declared.U32Read.the-variants as u32
 use Rattle.codec.specs.Word.{bigEndian, littleEndian, bigEndianBytes, littleEndianBytes, readU64, readU32}
 

@@ -3,3 +3,4 @@ pub mod Number
 pub mod Shortest
 pub mod Word
 pub mod Write
+pub mod Byte

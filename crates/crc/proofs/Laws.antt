@@ -7,8 +7,9 @@ use native.Mathlib.Numerals.{add-one}
 use native.Mathlib.Omega.{arith}
 use lib.Bits.{bitXor, xor-comm, xor-lt}
 use lib.Dec.{lit<}
-use lib.ListN.{length, take, drop, getD, drop-of-length-le}
-use lib.Seq.{drop-cons, getD-drop}
+use lib.ListN.{length, drop, getD, drop-of-length-le}
+use lib.Seq.{drop-cons}
+use Rattle.codec.specs.Byte.{Bytes}
 use Rattle.crc.specs.Crc.{poly, step, steps, feed, crcOf}
 
 -- ---- the bits of a byte: i of n are done, r is the register, and y what all n lead to
@@ -42,20 +43,6 @@ unfolding feed crcOf
 bytes-done ds i r l h = ap (λ (x : ℕ). bitXor x 0xFFFF_FFFF) (rw (drop-of-length-le ds l) at h)
 
 -- ---- the checksum of bytes fits 32 bits
-
--- what a `&[u8]` says of its list
-abbrev pub Bytes : List ℕ → Type 0
-Bytes ds = (i : ℕ) → getD ds i 0 < 256
-
--- the same of its parts
-pub bytes-take : (n : ℕ) (ds : List ℕ) → Bytes ds → Bytes (take n ds)
-bytes-take zero ds b i = lit< tt
-bytes-take (suc n) [] b i = lit< tt
-bytes-take (suc n) (d ∷ ds) b zero = b 0
-bytes-take (suc n) (d ∷ ds) b (suc i) = bytes-take n ds (λ j. b (suc j)) i
-
-pub bytes-drop : (n : ℕ) (ds : List ℕ) → Bytes ds → Bytes (drop n ds)
-bytes-drop n ds b i = rw getD-drop (b (n + i))
 
 steps-lt : (n r : ℕ) → r < 2 ^ 32 → steps n r < 2 ^ 32
 unfolding steps step

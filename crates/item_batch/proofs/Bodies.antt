@@ -14,7 +14,8 @@ use Rattle.crc.specs.Crc.{crcOf}
 use Rattle.log_item.specs.declared.Form.the-variants.{Any, Plain}
 use Rattle.log_item.specs.declared.LogItem.{LogItem}
 use Rattle.log_item.specs.declared.EntryIndex.{EntryIndex}
-use Rattle.log_item.proofs.Place.{Bytes, bytes-at, at-front}
+use Rattle.codec.specs.Byte.{Bytes}
+use Rattle.log_item.proofs.Place.{bytes-at, at-front}
 use Rattle.item_batch.specs.declared.PlainForm.the-variants as plain
 use Rattle.item_batch.specs.Spelling.{Begins}
 use Rattle.item_batch.specs.Reading.{Answer, accepted, rejected, readItems}

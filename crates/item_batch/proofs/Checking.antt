@@ -2,7 +2,7 @@
 -- Assumes nothing.
 use Prim.Native.Nat.{ℕ, zero, suc, _+_, _-_, _≤_, _<_}
 use mathlib.Core.Path.{_≡_, refl, sym, ap, ap₂, _∙_}
-use mathlib.Core.List.{List, [], _∷_, _++_}
+use mathlib.Core.List.{List, [], _++_}
 use native.Mathlib.Omega.{arith}
 use native.Mathlib.Nat.{add-zero, zero-add}
 use borrow.Author.Tests.{le-leb, lt-leb}
@@ -18,7 +18,6 @@ use Rattle.log_item.specs.declared.EntryIndex.{EntryIndex}
 use Rattle.item_batch.specs.declared.BodyCheck.{BodyCheck}
 use Rattle.item_batch.specs.declared.BodyCheck.the-variants.{Accepted, Refused}
 use Rattle.item_batch.specs.Reading.{Answer, accepted, rejected, before, inFront, items, count, readItems}
-use Rattle.item_batch.specs.declared.PlainForm.{PlainForm}
 use Rattle.item_batch.specs.declared.PlainForm.the-variants as plain
 use Rattle.item_batch.specs.Body.{readBody}
 use Rattle.item_batch.specs.Seal.{sealedPart, sealCheck}

@@ -8,10 +8,9 @@ use native.Mathlib.Omega.{arith}
 use borrow.Author.Tests.{le-leb, lt-leb, leb-false, eq-eqb, ne-eqb}
 use lib.Bits.{bitXor}
 use lib.Dec.{leb, eqb}
-use lib.ListN.{length, take, drop, length-drop}
+use lib.ListN.{length, drop, length-drop}
 use lib.Seq.{take-all}
-use Rattle.codec.specs.Word.{littleEndian, readU32}
-use Rattle.codec.specs.declared.U32Read.{U32Read}
+use Rattle.codec.specs.Word.{readU32}
 use Rattle.codec.specs.declared.U32Read.the-variants.{Done, Eof}
 use Rattle.crc.specs.Crc.{crcOf}
 use Rattle.log_item.specs.declared.Form.the-variants.{Any}

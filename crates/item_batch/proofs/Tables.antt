@@ -11,7 +11,8 @@ use Rattle.log_item.specs.declared.Span.{Span}
 use Rattle.log_item.specs.declared.LogItem.{LogItem}
 use Rattle.log_item.specs.declared.EntryIndex.{EntryIndex}
 use Rattle.item_batch.specs.Reading.{Answer, accepted, rejected}
-use Rattle.item_batch.specs.Table.{blankItem, blankEntry, emptyTable, tableOf, agreeing}
+use Rattle.log_item.specs.Blank.{blankItem, blankEntry}
+use Rattle.item_batch.specs.Table.{emptyTable, tableOf, agreeing}
 use Rattle.item_batch.specs.declared.LogItemBatch.{LogItemBatch}
 use Rattle.item_batch.specs.declared.Wanted.{Wanted}
 use Rattle.item_batch.specs.declared.Wanted.the-variants.{Free, Exactly}

@@ -11,20 +11,23 @@ use Rattle.codec.specs.Word.{littleEndian}
 use Rattle.crc.specs.Crc.{crcOf}
 use Rattle.log_item.specs.declared.Form.{Form}
 use Rattle.log_item.specs.declared.Form.the-variants.{Any, Plain}
+use Rattle.log_item.specs.declared.Span.{Span}
 use Rattle.log_item.specs.declared.LogItem.{LogItem}
 use Rattle.log_item.specs.declared.EntryIndex.{EntryIndex}
 use Rattle.log_item.specs.Rows.{Joined}
 use Rattle.log_item.specs.Spelling.{NumberIn}
-use Rattle.log_item.proofs.Place.{Bytes}
+use Rattle.codec.specs.Byte.{Bytes}
 use Rattle.log_item.proofs.Numbers.{Asks}
+use Rattle.item_batch.specs.declared.BodyCheck.the-variants as check
 use Rattle.item_batch.specs.declared.PlainForm.the-variants as plain
 use Rattle.item_batch.specs.Spelling.{Spells, list, Begins}
 use Rattle.item_batch.specs.Reading.{Answer, accepted, rejected, readItems}
 use Rattle.item_batch.specs.Seal.{sealedPart}
 use Rattle.item_batch.specs.Body.{readBody, Acceptable}
+use Rattle.item_batch.specs.Table.{tableOf}
 use Rattle.item_batch.specs.Rows.{Indexed}
 use Rattle.item_batch.specs.Plain.{InPlainForm}
-use Rattle.item_batch.specs.Answers.{yesNo, plainBody}
+use Rattle.item_batch.specs.Answers.{checkOf, yesNo, plainBody}
 use Rattle.item_batch.proofs.Accepts.{of-accepted}
 use Rattle.item_batch.proofs.Listing.{complete, sound, items-joined, items-indexed}
 use Rattle.item_batch.proofs.One.{one-spelled}
@@ -115,3 +118,15 @@ module _ (body : List ℕ) (signature : ℕ) where
   pub plain-refused : {r i : ℕ} → readBody body signature ≡ rejected r i → plainBody body signature ≡ plain.Refused (record { number = r; item = i })
   unfolding plainBody
   plain-refused e = rw e
+
+-- The check without a table agrees with the table reading: it tells the counts, the entry total and the place after the last item that the table
+-- of the same answer holds, or its refusal.
+module _ (body block : Span) where
+  pub check-accepted : (xs : List LogItem) (rows : List EntryIndex) (u q : ℕ) → let t = tableOf body block (accepted xs rows u q) in
+      checkOf (accepted xs rows u q) ≡ check.Accepted (t .«item_count») (t .«entry_count») (t .total) (t .next)
+  unfolding tableOf
+  check-accepted xs rows u q = refl
+
+  pub check-refused : (r i : ℕ) → checkOf (rejected r i) ≡ check.Refused (tableOf body block (rejected r i) .refusal)
+  unfolding tableOf
+  check-refused r i = refl

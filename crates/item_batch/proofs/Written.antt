@@ -16,7 +16,8 @@ use Rattle.codec.specs.Shortest.{shortest}
 use Rattle.codec.specs.Word.{littleEndian, littleEndianBytes}
 use Rattle.codec.proofs.Words.{length-little, little-endian-back}
 use Rattle.crc.specs.Crc.{crcOf}
-use Rattle.crc.proofs.Laws.{Bytes, crc-lt}
+use Rattle.codec.specs.Byte.{Bytes}
+use Rattle.crc.proofs.Laws.{crc-lt}
 use Rattle.crc.proofs.Xor.{xor-cancel-l}
 use Rattle.log_item.specs.Entries.{entriesOf}
 use Rattle.log_item.specs.Limits.{Each, RowFits}
@@ -39,7 +40,8 @@ use Rattle.item_writer.specs.Relocated.{stated, contentAt, itemAt, itemRows, nu
 use Rattle.item_writer.proofs.Refusals.{content-inside, content-allowed}
 use Rattle.item_writer.proofs.Written.{written-item, read-item-at, spans-kept}
 use Rattle.list_writer.specs.declared.Encoded.{Encoded}
-use Rattle.list_writer.specs.Bytes.{firstOf, blankItem, itemsOf, itemsBytes, listBytes, footed, bodyBytes}
+use Rattle.log_item.specs.Blank.{blankItem}
+use Rattle.list_writer.specs.Bytes.{firstRows, itemsOf, itemsBytes, listBytes, footed, bodyBytes}
 use Rattle.list_writer.specs.Refusing.{fine, itemsVerdict, listVerdict}
 use Rattle.list_writer.proofs.Heads.{cond-fine}
 use Rattle.list_writer.proofs.Written.{items-split, items-fine, Encodes, writes, leaves, encodes}
@@ -236,7 +238,7 @@ table-small t z = go (t .«item_count») (t .items) z
     blank : Small (blankItem .«raft_group_id» ∷ numbersOf (blankItem .content))
     blank = relocated.one (lit< tt) (relocated.one (lit< tt) (relocated.one (lit< tt) relocated.none))
 
-    go : (n : ℕ) (xs : List LogItem) → AllSmall xs → AllSmall (firstOf blankItem n xs)
+    go : (n : ℕ) (xs : List LogItem) → AllSmall xs → AllSmall (firstRows blankItem n xs)
     go zero xs f = none
     go (suc n) [] f = one blank (go n [] f)
     go (suc n) (x ∷ xs) (one h f) = one h (go n xs f)

@@ -7,7 +7,8 @@ use lib.Dec.{lit<}
 use lib.ListN.{drop}
 use Rattle.codec.specs.Shortest.{spell, shortest}
 use Rattle.codec.proofs.Shortest.{spell-one, spell-more, Size, small, large, size, fewer}
-use Rattle.crc.proofs.Laws.{Bytes, bytes-take, bytes-drop}
+use Rattle.codec.specs.Byte.{Bytes}
+use Rattle.codec.proofs.Bytes.{bytes-take, bytes-drop}
 use Rattle.log_item.specs.Entries.{typeOf}
 use Rattle.log_item.specs.declared.Span.{Span}
 use Rattle.log_item.specs.declared.Command.the-variants.{Clean, Compact}

@@ -7,11 +7,10 @@ use lib.Bits.{bitXor}
 use lib.ListN.{length}
 use Rattle.codec.specs.Word.{littleEndian}
 use Rattle.crc.specs.Crc.{crcOf}
-use Rattle.log_item.specs.declared.Form.{Form}
 use Rattle.log_item.specs.declared.Form.the-variants.{Any}
 use Rattle.log_item.specs.declared.LogItem.{LogItem}
 use Rattle.log_item.specs.declared.EntryIndex.{EntryIndex}
-use Rattle.item_batch.specs.Reading.{Answer, accepted, rejected, readItems}
+use Rattle.item_batch.specs.Reading.{Answer, rejected, readItems}
 use Rattle.item_batch.specs.Seal.{sealedPart, sealCheck}
 use Rattle.item_batch.specs.Spelling.{Begins}
 

@@ -5,21 +5,12 @@ use mathlib.Core.Bool.{cond}
 use mathlib.Core.List.{List, _++_}
 use lib.Dec.{eqb}
 use lib.ListN.{length, replicate}
-use Rattle.refusal.specs.declared.Refusal.{Refusal}
+use Rattle.log_item.specs.Blank.{blankItem, blankEntry}
 use Rattle.log_item.specs.declared.Span.{Span}
-use Rattle.log_item.specs.declared.LogItemContent.the-variants as contents
-use Rattle.log_item.specs.declared.LogItem.{LogItem}
-use Rattle.log_item.specs.declared.EntryIndex.{EntryIndex}
 use Rattle.item_batch.specs.declared.LogItemBatch.{LogItemBatch}
 use Rattle.item_batch.specs.declared.Wanted.{Wanted}
 use Rattle.item_batch.specs.declared.Wanted.the-variants.{Free, Exactly}
 use Rattle.item_batch.specs.Reading.{Answer, accepted, rejected}
-
-abbrev pub blankItem : LogItem
-blankItem = record { «raft_group_id» = 0; content = contents.EntryIndexes (record { count = 0; «first_index» = 0 }) }
-
-abbrev pub blankEntry : EntryIndex
-blankEntry = record { index = 0; «entry_offset» = 0; «entry_len» = 0 }
 
 -- a table of n rows that begins with the list, the others blank
 abbrev pub pad : {A : Type 0} → A → ℕ → List A → List A

@@ -2,20 +2,20 @@
 -- Assumes nothing.
 use Prim.Native.Nat.{ℕ, zero, suc, _+_, _≤_, _<_, min}
 use mathlib.Core.Path.{_≡_, refl, sym, ap, _∙_}
-use mathlib.Core.Bool.{Bool, true, false, cond}
-use mathlib.Core.List.{List, [], _∷_, _++_}
+use mathlib.Core.Bool.{Bool, true, false}
+use mathlib.Core.List.{List}
 use native.Mathlib.Omega.{arith}
-use lib.Dec.{ltb, leb}
+use lib.Dec.{leb}
 use lib.ListN.{length, take, length-append}
 use borrow.Author.Tests.{lt-ltb, le-ltb, le-leb, lt-leb}
-use Rattle.codec.specs.Write.{placed}
 use Rattle.codec.proofs.Writing.{room-for}
 use Rattle.log_item.specs.Entries.{entriesOf}
 use Rattle.log_item.specs.declared.EntryIndexes.{EntryIndexes}
 use Rattle.log_item.specs.declared.LogItem.{LogItem}
-use Rattle.item_writer.specs.Bytes.{headBytes, tailsBytes}
+use Rattle.item_writer.specs.Bytes.{headBytes}
 use Rattle.item_writer.specs.Refusing.{contentInside, contentRefusal}
-use Rattle.item_writer.specs.Answers.{capped, headOf, measureItem, sumOf, rowLengths, itemBytes, firstOf, itemRefusal, itemWrote, itemPlaced}
+use Rattle.refusal.specs.First.{firstOf}
+use Rattle.item_writer.specs.Answers.{capped, headOf, measureItem, sumOf, rowLengths, itemBytes, itemRefusal, itemWrote, itemPlaced}
 use Rattle.item_writer.specs.Private.{Room, Stored, fitted, headLength, tailsSize}
 use Rattle.item_writer.specs.declared.TailsSize.{TailsSize}
 use Rattle.item_writer.specs.declared.TailsSize.the-variants.{Fine, TooLarge}

@@ -1,14 +1,15 @@
 -- The lengths of what is written, where the spans lie in the store.
 -- Assumes nothing.
-use Prim.Native.Nat.{ℕ, zero, suc, _+_, _-_, _≤_, _<_, min}
+use Prim.Native.Nat.{ℕ, zero, suc, _+_, _-_, _≤_, _<_}
 use mathlib.Core.Path.{_≡_, refl, sym, ap, _∙_}
 use mathlib.Core.Bool.{Bool, true, false, _&&_}
-use mathlib.Core.List.{List, [], _∷_, _++_}
+use mathlib.Core.List.{List, _∷_, _++_}
 use native.Mathlib.Omega.{arith}
 use lib.Dec.{leb}
 use lib.ListN.{length, take, drop, length-append, length-take, length-drop}
 use borrow.Author.Tests.{leb-true, leb-false, le-leb, lt-leb}
 use Rattle.codec.specs.Shortest.{shortest, spell}
+use Rattle.log_item.proofs.Inside.{inside-bound}
 use Rattle.log_item.specs.Prefix.{bytesOf}
 use Rattle.log_item.specs.Entries.{typeOf}
 use Rattle.log_item.specs.declared.Span.{Span}
@@ -22,7 +23,8 @@ use Rattle.log_item.specs.declared.LogItemContent.{LogItemContent}
 use Rattle.log_item.specs.declared.LogItemContent.the-variants as contents
 use Rattle.log_item.specs.declared.LogItem.{LogItem}
 use Rattle.item_writer.specs.Bytes.{spanBytes, commandBytes, opBytes, entriesBytes, contentBytes, headBytes}
-use Rattle.item_writer.specs.Refusing.{inside, opInside, contentInside}
+use Rattle.log_item.specs.Prefix.{inside}
+use Rattle.item_writer.specs.Refusing.{opInside, contentInside}
 use Rattle.item_writer.specs.Private.{fitted, spanLength, opLength, contentLength, headLength}
 
 pub and-both : (a b : Bool) → (a && b) ≡ true → (a ≡ true) × (b ≡ true)
@@ -41,11 +43,8 @@ room-left all at len h = go (leb len (all - at)) refl
     go false e = let l : all - at < len = leb-false _ _ e in sym (lt-leb (at + len) all (omega arith))
 
 module _ (s : List ℕ) where
-  pub inside-bound : (k : Span) → inside s k ≡ true → k .at + k .len ≤ length s
-  inside-bound k h = leb-true (k .at + k .len) (length s) h
-
   pub part-length : (k : Span) → inside s k ≡ true → length (bytesOf s k) ≡ k .len
-  part-length k h = length-take (k .len) (drop (k .at) s) ∙ omega (arith, length-drop (k .at) s, inside-bound k h)
+  part-length k h = length-take (k .len) (drop (k .at) s) ∙ omega (arith, length-drop (k .at) s, inside-bound s k h)
 
   pub span-length : (k : Span) → inside s k ≡ true → length (spanBytes s k) ≡ spanLength k
   unfolding spanBytes

@@ -1,12 +1,11 @@
 -- Which refusal each way out of the tests gives, and what holds where there is none.
 -- Assumes nothing.
-use Prim.Native.Nat.{ℕ, zero, suc, _+_, _-_, _≤_, _<_}
-use mathlib.Core.Path.{_≡_, refl, sym, ap, _∙_}
+use Prim.Native.Nat.{ℕ, suc, _+_, _≤_, _<_}
+use mathlib.Core.Path.{_≡_, refl, sym, _∙_}
 use mathlib.Core.Bool.{Bool, true, false, cond, _&&_}
 use mathlib.Core.List.{List}
 use native.Mathlib.Omega.{arith}
 use lib.Dec.{ltb}
-use lib.ListN.{length}
 use borrow.Author.Tests.{ltb-false, lt-ltb, le-ltb}
 use Rattle.log_item.specs.Entries.{entriesOf}
 use Rattle.log_item.specs.Prefix.{prefix, begins, bytesOf}
@@ -19,7 +18,8 @@ use Rattle.log_item.specs.declared.KeyValue.{KeyValue}
 use Rattle.log_item.specs.declared.LogItemContent.{LogItemContent}
 use Rattle.log_item.specs.declared.LogItemContent.the-variants as contents
 use Rattle.item_writer.proofs.Lengths.{and-both}
-use Rattle.item_writer.specs.Refusing.{inside, opInside, contentInside, entriesRefusal, keyRefusal, contentRefusal}
+use Rattle.log_item.specs.Prefix.{inside}
+use Rattle.item_writer.specs.Refusing.{opInside, contentInside, entriesRefusal, keyRefusal, contentRefusal}
 
 module _ (used rows : ℕ) (e : EntryIndexes) where
   pub entries-14 : 1024 < used + e .count → 14 ≡ entriesRefusal used rows e

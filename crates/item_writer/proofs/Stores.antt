@@ -8,7 +8,7 @@ use native.Mathlib.Omega.{arith}
 use lib.Dec.{leb}
 use lib.ListN.{length, set, length-append}
 use lib.Seq.{sets, length-sets, sets-eq}
-use borrow.Author.Tests.{le-leb, leb-true, leb-false, not-true, not-false}
+use borrow.Author.Tests.{le-leb, leb-true, leb-false}
 use Rattle.codec.specs.Write.{wroteAt, placed}
 use Rattle.codec.specs.declared.Wrote.{Wrote}
 use Rattle.codec.specs.declared.Wrote.the-variants.{Next, NoRoom}

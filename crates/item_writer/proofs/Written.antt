@@ -5,7 +5,7 @@ use mathlib.Core.Path.{_≡_, refl, sym, ap, _∙_}
 use mathlib.Core.Bool.{true, false, cond}
 use mathlib.Core.List.{List, [], _∷_, _++_, map, append-assoc}
 use native.Mathlib.Omega.{arith}
-use lib.ListN.{length, take, drop, length-append, length-take}
+use lib.ListN.{length, take, drop, length-take}
 use lib.Seq.{take-at, drop-append-seam, drop-append-add}
 use lib.Dec.{ltb, leb}
 use borrow.Author.Tests.{ltb-false, leb-true, le-leb}
@@ -33,8 +33,10 @@ use Rattle.log_item.proofs.Place.{At, cut}
 use Rattle.log_item.proofs.Forms.{form-any}
 use Rattle.log_item.proofs.Complete.{complete-item}
 use Rattle.item_writer.specs.Bytes.{spanBytes, commandBytes, opBytes, entriesBytes, contentBytes, headBytes, tailsBytes}
-use Rattle.item_writer.specs.Refusing.{inside, opInside, contentInside, contentRefusal}
-use Rattle.item_writer.specs.Answers.{sumOf, rowLengths, itemBytes, firstOf, itemRefusal}
+use Rattle.log_item.specs.Prefix.{inside}
+use Rattle.item_writer.specs.Refusing.{opInside, contentInside, contentRefusal}
+use Rattle.refusal.specs.First.{firstOf}
+use Rattle.item_writer.specs.Answers.{sumOf, rowLengths, itemBytes, itemRefusal}
 use Rattle.item_writer.specs.Relocated.{spanAt, keyAt, stated, contentAt, itemAt, rowsFrom, itemRows, spansOf, numbersOf, Small, none, one, Writable}
 use Rattle.item_writer.proofs.Lengths.{and-both, part-length, span-length}
 use Rattle.item_writer.proofs.Refusals.{untaken, taken, content-inside, content-allowed}

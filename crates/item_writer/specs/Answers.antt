@@ -5,6 +5,7 @@ use mathlib.Core.Bool.{Bool, false, cond}
 use mathlib.Core.List.{List, [], _∷_, _++_}
 use lib.Dec.{ltb, leb}
 use lib.ListN.{length, take}
+use Rattle.refusal.specs.First.{firstOf}
 use Rattle.codec.specs.Write.{wroteAt, placed}
 use Rattle.codec.specs.declared.Wrote.{Wrote}
 use Rattle.codec.specs.declared.Wrote.the-variants.{Next, NoRoom}
@@ -49,11 +50,6 @@ rowLengths x lengths = take (entriesOf (x .content) .count) lengths
 -- the item and its tails
 unfoldable pub itemBytes : List ℕ → LogItem → List ℕ → ℕ → List ℕ
 itemBytes s x lengths t = headBytes s x ++ tailsBytes (rowLengths x lengths) t (λ u. [])
-
--- the first of two refusals, where 0 is none
-abbrev pub firstOf : ℕ → ℕ → ℕ
-firstOf zero r = r
-firstOf (suc n) r = suc n
 
 -- 14, 13, 17 or 13, then 16, then 21
 unfoldable pub itemRefusal : List ℕ → LogItem → List ℕ → ℕ → List ℕ → ℕ → ℕ

@@ -1,21 +1,16 @@
 -- Which refusal a writer gives an item: the checks in the order of document 01, each with its number; 0 is none.
 -- Assumes nothing.
 use Prim.Native.Nat.{ℕ, _+_}
-use mathlib.Core.Bool.{Bool, true, false, cond, _&&_}
+use mathlib.Core.Bool.{Bool, true, cond, _&&_}
 use mathlib.Core.List.{List}
-use lib.Dec.{ltb, leb}
-use lib.ListN.{length}
-use Rattle.log_item.specs.Prefix.{prefix, begins, bytesOf}
+use lib.Dec.{ltb}
+use Rattle.log_item.specs.Prefix.{prefix, begins, bytesOf, inside}
 use Rattle.log_item.specs.declared.Span.{Span}
 use Rattle.log_item.specs.declared.Op.{Op}
 use Rattle.log_item.specs.declared.Op.the-variants.{Put, Del}
 use Rattle.log_item.specs.declared.EntryIndexes.{EntryIndexes}
 use Rattle.log_item.specs.declared.LogItemContent.{LogItemContent}
 use Rattle.log_item.specs.declared.LogItemContent.the-variants as contents
-
--- a span lies in the store
-abbrev pub inside : List ℕ → Span → Bool
-inside s k = leb (k .at + k .len) (length s)
 
 -- 14, 13, 17: `used` rows are behind, of `rows` that are lent
 unfoldable pub entriesRefusal : ℕ → ℕ → EntryIndexes → ℕ

@@ -1,20 +1,23 @@
 // Writing one item of a log batch at a place of a lent buffer. From log_batch.rs, the encode of EntryIndexes, Command, KeyValue and LogItem.
 //
 // Every public function takes any arguments. What does not fit, or has a span outside the store, is not written at all.
+mod measuring;
+mod refusing;
+
 ghost use mathlib.Core.Path.{_≡_};
-ghost use mathlib.Core.Bool.{true, _&&_};
+ghost use mathlib.Core.Bool.{true};
 ghost use mathlib.Core.List.{[], _∷_};
-ghost use Prim.Native.Nat.{_+_, _≤_, min};
-ghost use lib.Dec.{leb};
+ghost use Prim.Native.Nat.{_+_, _≤_};
 ghost use lib.ListN.{length, take};
 ghost use Rattle.codec.specs.Shortest.{shortest};
 ghost use Rattle.codec.specs.Write.{wroteAt, placed};
 ghost use Rattle.log_item.specs.Entries.{typeOf};
-ghost use Rattle.log_item.specs.Prefix.{prefix, begins, bytesOf};
+ghost use Rattle.log_item.specs.Prefix.{bytesOf};
 ghost use Rattle.item_writer.specs.Bytes.{spanBytes, commandBytes, entriesBytes, opBytes, contentBytes, headBytes, tailsBytes};
-ghost use Rattle.item_writer.specs.Refusing.{inside, opInside, contentInside, entriesRefusal, keyRefusal, contentRefusal};
+ghost use Rattle.log_item.specs.Prefix.{inside};
+ghost use Rattle.item_writer.specs.Refusing.{opInside, contentInside};
 ghost use Rattle.item_writer.specs.Answers.{measureItem, wroteIf, placedIf, itemBytes, itemRefusal, itemWrote, itemPlaced, sumOf, rowLengths};
-ghost use Rattle.item_writer.specs.Private.{Room, Stored, fitted, spanLength, opLength, contentLength, headLength, tailsSize};
+ghost use Rattle.item_writer.specs.Private.{Room, Stored, tailsSize};
 use codec::Wrote;
 use log_item::Command;
 use log_item::EntryIndexes;
@@ -48,13 +51,13 @@ pub fn measure(item: LogItem, store: &[u8], checked: bool, used: usize, rows: us
     ensures { λ r. ⌜ r ≡ measureItem (now (store .entry)) checked used rows item ⌝ }
 {
     let content = item.content;
-    let number = content_refusal(content, store, checked, used, rows);
+    let number = refusing::content_refusal(content, store, checked, used, rows);
     if number != refusal::NONE {
         return Head::Refused(number);
     }
     let entries = item.entries();
     Head::Fine {
-        len: least(head_len(item), 4294967296),
+        len: measuring::least(measuring::head_len(item), 4294967296),
         count: entries.count,
     }
 }
@@ -64,10 +67,10 @@ pub fn encode_head(item: LogItem, store: &[u8], out: &mut [u8], at: usize) -> Wr
     ensures { λ r. ⌜ (r ≡ wroteIf (contentInside (now (store .entry)) (item .content)) (now (out .entry)) at (headBytes (now (store .entry)) item)) × (now (out .exit) ≡ placedIf (contentInside (now (store .entry)) (item .content)) (now (out .entry)) at (headBytes (now (store .entry)) item)) ⌝ }
 {
     let content = item.content;
-    if !content_inside(content, store) {
+    if !refusing::content_inside(content, store) {
         return Wrote::NoRoom;
     }
-    if !has_room(out.len(), at, head_len(item)) {
+    if !refusing::has_room(out.len(), at, measuring::head_len(item)) {
         return Wrote::NoRoom;
     }
     Wrote::Next(put_head(item, store, out, at))
@@ -77,7 +80,7 @@ pub fn encode_head(item: LogItem, store: &[u8], out: &mut [u8], at: usize) -> Wr
 pub fn encode_command(c: Command, out: &mut [u8], at: usize) -> Wrote
     ensures { λ r. ⌜ (r ≡ wroteAt (now (out .entry)) at (commandBytes c)) × (now (out .exit) ≡ placed (now (out .entry)) at (commandBytes c)) ⌝ }
 {
-    if !has_room(out.len(), at, command_len(c)) {
+    if !refusing::has_room(out.len(), at, measuring::command_len(c)) {
         return Wrote::NoRoom;
     }
     Wrote::Next(put_command(c, out, at))
@@ -87,10 +90,10 @@ pub fn encode_command(c: Command, out: &mut [u8], at: usize) -> Wrote
 pub fn encode_key_value(kv: KeyValue, store: &[u8], out: &mut [u8], at: usize) -> Wrote
     ensures { λ r. ⌜ (r ≡ wroteIf (opInside (now (store .entry)) (kv .key) (kv .op)) (now (out .entry)) at (opBytes (now (store .entry)) (kv .key) (kv .op))) × (now (out .exit) ≡ placedIf (opInside (now (store .entry)) (kv .key) (kv .op)) (now (out .entry)) at (opBytes (now (store .entry)) (kv .key) (kv .op))) ⌝ }
 {
-    if !op_inside(kv, store) {
+    if !refusing::op_inside(kv, store) {
         return Wrote::NoRoom;
     }
-    if !has_room(out.len(), at, op_len(kv)) {
+    if !refusing::has_room(out.len(), at, measuring::op_len(kv)) {
         return Wrote::NoRoom;
     }
     Wrote::Next(put_op(kv, store, out, at))
@@ -100,7 +103,7 @@ pub fn encode_key_value(kv: KeyValue, store: &[u8], out: &mut [u8], at: usize) -
 pub fn encode_entry_indexes(e: EntryIndexes, out: &mut [u8], at: usize) -> Wrote
     ensures { λ r. ⌜ (r ≡ wroteAt (now (out .entry)) at (entriesBytes (e .count) (e .«first_index»))) × (now (out .exit) ≡ placed (now (out .entry)) at (entriesBytes (e .count) (e .«first_index»))) ⌝ }
 {
-    if !has_room(out.len(), at, entries_len(e)) {
+    if !refusing::has_room(out.len(), at, measuring::entries_len(e)) {
         return Wrote::NoRoom;
     }
     Wrote::Next(put_entries(e, out, at))
@@ -118,7 +121,7 @@ pub fn encode(
     ensures { λ r. ⌜ (r ≡ itemWrote (itemRefusal (now (store .entry)) item (now (lengths .entry)) total (now (out .entry)) at) (at + length (itemBytes (now (store .entry)) item (now (lengths .entry)) total)) (sumOf total (rowLengths item (now (lengths .entry))))) × (now (out .exit) ≡ itemPlaced (itemRefusal (now (store .entry)) item (now (lengths .entry)) total (now (out .entry)) at) (now (out .entry)) at (itemBytes (now (store .entry)) item (now (lengths .entry)) total)) ⌝ }
 {
     let content = item.content;
-    let number = content_refusal(content, store, false, 0, lengths.len());
+    let number = refusing::content_refusal(content, store, false, 0, lengths.len());
     if number != refusal::NONE {
         return ItemWrote::Refused(number);
     }
@@ -127,7 +130,11 @@ pub fn encode(
     match tails_size(lengths, count, total) {
         TailsSize::TooLarge => ItemWrote::Refused(refusal::TAIL_TOO_LARGE),
         TailsSize::Fine { len, total: after } => {
-            if !has_room(out.len(), at, plus(head_len(item), len)) {
+            if !refusing::has_room(
+                out.len(),
+                at,
+                measuring::plus(measuring::head_len(item), len),
+            ) {
                 return ItemWrote::Refused(refusal::OUTPUT_SHORT);
             }
             let tails = put_head(item, store, out, at);
@@ -135,178 +142,6 @@ pub fn encode(
             ItemWrote::Next { next, total: after }
         }
     }
-}
-
-// ---- refusals
-
-// The first refusal of a content but 16, or 0.
-fn content_refusal(
-    content: LogItemContent,
-    store: &[u8],
-    checked: bool,
-    used: usize,
-    rows: usize,
-) -> u32
-    ensures { λ r. ⌜ r ≡ contentRefusal (now (store .entry)) checked used rows content ⌝ }
-{
-    match content {
-        LogItemContent::EntryIndexes(e) => entries_refusal(e, used, rows),
-        LogItemContent::Command(_) => refusal::NONE,
-        LogItemContent::Kv(kv) => key_refusal(kv, store, checked),
-    }
-}
-
-fn entries_refusal(e: EntryIndexes, used: usize, rows: usize) -> u32
-    ensures { λ r. ⌜ r ≡ entriesRefusal used rows e ⌝ }
-{
-    let n = e.count;
-    if 1024 < used {
-        return refusal::ENTRIES_TOO_MANY;
-    }
-    if 1024 - used < n {
-        return refusal::ENTRIES_TOO_MANY;
-    }
-    if rows < used + n {
-        return refusal::SPAN_OUTSIDE;
-    }
-    if n == 0 {
-        return refusal::NONE;
-    }
-    if u64::MAX - e.first_index < (n - 1) as u64 {
-        return refusal::INDEX_TOO_LARGE;
-    }
-    refusal::NONE
-}
-
-fn key_refusal(kv: KeyValue, store: &[u8], checked: bool) -> u32
-    ensures { λ r. ⌜ r ≡ keyRefusal (now (store .entry)) checked (kv .key) (kv .op) ⌝ }
-{
-    if !op_inside(kv, store) {
-        return refusal::SPAN_OUTSIDE;
-    }
-    let key = kv.key;
-    let op = kv.op;
-    match op {
-        Op::Put { value: _ } => {
-            if is_forbidden(key, store, checked) {
-                return refusal::KEY_INTERNAL;
-            }
-            refusal::NONE
-        }
-        Op::Del => refusal::NONE,
-    }
-}
-
-// Whether keys are looked at, and this one begins with the internal prefix.
-fn is_forbidden(key: Span, store: &[u8], checked: bool) -> bool
-    ensures { λ r. ⌜ r ≡ (checked && begins (bytesOf (now (store .entry)) key) prefix) ⌝ }
-{
-    if checked {
-        return log_item::is_internal_key(store, key);
-    }
-    false
-}
-
-// Whether the spans of a content lie in the store.
-fn content_inside(content: LogItemContent, store: &[u8]) -> bool
-    ensures { λ r. ⌜ r ≡ contentInside (now (store .entry)) content ⌝ }
-{
-    match content {
-        LogItemContent::EntryIndexes(_) => true,
-        LogItemContent::Command(_) => true,
-        LogItemContent::Kv(kv) => op_inside(kv, store),
-    }
-}
-
-fn op_inside(kv: KeyValue, store: &[u8]) -> bool
-    ensures { λ r. ⌜ r ≡ opInside (now (store .entry)) (kv .key) (kv .op) ⌝ }
-{
-    let key = kv.key;
-    let op = kv.op;
-    if !is_inside(key, store) {
-        return false;
-    }
-    match op {
-        Op::Put { value } => is_inside(value, store),
-        Op::Del => true,
-    }
-}
-
-fn is_inside(span: Span, store: &[u8]) -> bool
-    ensures { λ r. ⌜ r ≡ inside (now (store .entry)) span ⌝ }
-{
-    has_room(store.len(), span.at, span.len)
-}
-
-// Whether `len` bytes from a place on lie among `all`.
-fn has_room(all: usize, at: usize, len: usize) -> bool
-    ensures { λ r. ⌜ r ≡ leb (at + len) all ⌝ }
-{
-    if all < at {
-        return false;
-    }
-    len <= all - at
-}
-
-// ---- lengths, none above the largest number
-
-fn head_len(item: LogItem) -> usize
-    ensures { λ r. ⌜ r ≡ fitted (headLength item) ⌝ }
-{
-    let content = item.content;
-    plus(
-        codec::var_u64_len(item.raft_group_id),
-        plus(1, content_len(content)),
-    )
-}
-
-fn content_len(content: LogItemContent) -> usize
-    ensures { λ r. ⌜ r ≡ fitted (contentLength content) ⌝ }
-{
-    match content {
-        LogItemContent::EntryIndexes(e) => entries_len(e),
-        LogItemContent::Command(c) => command_len(c),
-        LogItemContent::Kv(kv) => op_len(kv),
-    }
-}
-
-fn entries_len(e: EntryIndexes) -> usize
-    ensures { λ r. ⌜ r ≡ fitted (length (entriesBytes (e .count) (e .«first_index»))) ⌝ }
-{
-    if e.count == 0 {
-        return 1;
-    }
-    plus(
-        codec::var_u64_len(e.count as u64),
-        codec::var_u64_len(e.first_index),
-    )
-}
-
-fn command_len(c: Command) -> usize
-    ensures { λ r. ⌜ r ≡ fitted (length (commandBytes c)) ⌝ }
-{
-    match c {
-        Command::Clean => 1,
-        Command::Compact { index } => plus(1, codec::var_u64_len(index)),
-    }
-}
-
-fn op_len(kv: KeyValue) -> usize
-    ensures { λ r. ⌜ r ≡ fitted (opLength (kv .key) (kv .op)) ⌝ }
-{
-    let key = kv.key;
-    let op = kv.op;
-    let len = plus(1, span_len(key));
-    match op {
-        Op::Put { value } => plus(len, span_len(value)),
-        Op::Del => len,
-    }
-}
-
-fn span_len(span: Span) -> usize
-    ensures { λ r. ⌜ r ≡ fitted (spanLength span) ⌝ }
-{
-    plus(codec::var_u64_len(span.len as u64), span.len)
 }
 
 // The length of the tails of the first `count` lengths, and the total after them.
@@ -322,26 +157,10 @@ fn tails_size(lengths: &[u32], count: usize, before: u32) -> TailsSize
             return TailsSize::TooLarge;
         }
         total += lengths[i];
-        len = plus(len, codec::var_u64_len(total as u64));
+        len = measuring::plus(len, codec::var_u64_len(total as u64));
         i += 1;
     }
     TailsSize::Fine { len, total }
-}
-
-// a + b, or the largest number where that is more.
-fn plus(a: usize, b: usize) -> usize
-    ensures { λ r. ⌜ r ≡ fitted (a + b) ⌝ }
-{
-    if usize::MAX - a < b {
-        return usize::MAX;
-    }
-    a + b
-}
-
-fn least(a: usize, b: usize) -> usize
-    ensures { λ r. ⌜ r ≡ min a b ⌝ }
-{
-    if a < b { a } else { b }
 }
 
 // ---- writing where there is room

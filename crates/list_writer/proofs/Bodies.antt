@@ -5,14 +5,13 @@ use mathlib.Core.Path.{_≡_, refl, sym, ap, _∙_}
 use mathlib.Core.Bool.{Bool, true, false, cond}
 use mathlib.Core.List.{List, _++_, append-assoc}
 use native.Mathlib.Omega.{arith}
-use lib.Dec.{ltb, leb, eqb}
+use lib.Dec.{ltb}
 use lib.Bits.{bitXor}
 use lib.ListN.{length, take, drop, length-append}
-use lib.Seq.{sets, sets-eq, drop-at, take-append-seam, length-take-le}
+use lib.Seq.{sets-eq, drop-at, take-append-seam, length-take-le}
 use borrow.Author.Tests.{eq-eqb, ne-eqb, le-leb, lt-leb, ltb-false}
 use Rattle.codec.specs.Shortest.{shortest}
 use Rattle.codec.specs.Word.{littleEndianBytes}
-use Rattle.codec.specs.Write.{placed}
 use Rattle.codec.proofs.Words.{length-little}
 use Rattle.crc.specs.Crc.{crcOf}
 use Rattle.log_item.specs.declared.LogItem.{LogItem}

@@ -1,8 +1,8 @@
 -- What holds at the head of the measure's loop, how a turn keeps it, and the answer of each way out.
 -- Assumes nothing.
-use Prim.Native.Nat.{ℕ, _+_, _-_, _*_, _^_, _≤_, _<_}
+use Prim.Native.Nat.{ℕ, _+_, _-_, _*_, _≤_, _<_}
 use mathlib.Core.Path.{_≡_, refl, sym, ap, _∙_}
-use mathlib.Core.Bool.{Bool, true, false, cond}
+use mathlib.Core.Bool.{Bool, true, false}
 use mathlib.Core.List.{List, _++_}
 use native.Mathlib.Omega.{arith}
 use lib.Dec.{ltb}
@@ -17,9 +17,9 @@ use Rattle.item_writer.specs.Bytes.{headBytes}
 use Rattle.item_writer.specs.Refusing.{contentRefusal}
 use Rattle.item_writer.specs.Answers.{capped, measureItem}
 use Rattle.item_writer.proofs.Refusals.{content-allowed}
-use Rattle.list_writer.specs.declared.Measured.{Measured}
-use Rattle.list_writer.specs.Bytes.{itemsBytes, listBytes, blankItem}
-use Rattle.list_writer.specs.Refusing.{Verdict, fine, refused, unless, itemsVerdict, listVerdict}
+use Rattle.log_item.specs.Blank.{blankItem}
+use Rattle.list_writer.specs.Bytes.{itemsBytes, listBytes}
+use Rattle.list_writer.specs.Refusing.{fine, refused, unless, itemsVerdict, listVerdict}
 use Rattle.list_writer.specs.Answers.{measured, measuredOf, measureOf}
 use Rattle.list_writer.proofs.Heads.{head-fine, head-refused}
 use Rattle.list_writer.proofs.Rest.{restBytes, bytes-row, bytes-item, bytes-end, bytes-start, restVerdict, told-row, told-item, told-end, told-start}

@@ -1,6 +1,6 @@
 -- What is left at the head of the writer's loops: the tails of the item begun, then the items after it.
 -- Assumes nothing.
-use Prim.Native.Nat.{ℕ, zero, suc, _+_, _-_, _≤_, _<_}
+use Prim.Native.Nat.{ℕ, suc, _+_, _-_, _≤_, _<_}
 use mathlib.Core.Path.{_≡_, refl, sym, ap, _∙_}
 use mathlib.Core.Bool.{Bool, cond}
 use mathlib.Core.List.{List, [], _∷_, _++_}
@@ -14,7 +14,8 @@ use Rattle.log_item.specs.Entries.{entriesOf}
 use Rattle.log_item.specs.declared.LogItem.{LogItem}
 use Rattle.item_writer.specs.Bytes.{headBytes, tailsBytes}
 use Rattle.item_writer.specs.Refusing.{contentRefusal}
-use Rattle.list_writer.specs.Bytes.{itemsBytes, blankItem}
+use Rattle.log_item.specs.Blank.{blankItem}
+use Rattle.list_writer.specs.Bytes.{itemsBytes}
 use Rattle.list_writer.specs.Refusing.{Verdict, fine, refused, unless, tailsVerdict, itemsVerdict}
 
 next-length : (ns : List ℕ) (j n : ℕ) → j < length ns → take (suc n) (drop j ns) ≡ getD ns j 0 ∷ take n (drop (j + 1) ns)

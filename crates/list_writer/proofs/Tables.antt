@@ -7,14 +7,15 @@ use native.Mathlib.Omega.{arith}
 use lib.ListN.{length, getD}
 use Rattle.log_item.specs.declared.LogItem.{LogItem}
 use Rattle.log_item.specs.declared.EntryIndex.{EntryIndex}
-use Rattle.list_writer.specs.Bytes.{firstOf, blankItem, blankEntry, itemsOf, lengthsOf}
+use Rattle.log_item.specs.Blank.{blankItem, blankEntry}
+use Rattle.list_writer.specs.Bytes.{firstRows, itemsOf, lengthsOf}
 
-first-length : {A : Type 0} (d : A) (n : ℕ) (xs : List A) → length (firstOf d n xs) ≡ n
+first-length : {A : Type 0} (d : A) (n : ℕ) (xs : List A) → length (firstRows d n xs) ≡ n
 first-length d zero xs = refl
 first-length d (suc n) [] = ap suc (first-length d n [])
 first-length d (suc n) (x ∷ xs) = ap suc (first-length d n xs)
 
-first-at : {A : Type 0} (d : A) (n : ℕ) (xs : List A) (i : ℕ) → i < n → getD (firstOf d n xs) i d ≡ getD xs i d
+first-at : {A : Type 0} (d : A) (n : ℕ) (xs : List A) (i : ℕ) → i < n → getD (firstRows d n xs) i d ≡ getD xs i d
 first-at d zero xs i h = absurd (omega arith)
 first-at d (suc n) [] zero h = refl
 first-at d (suc n) [] (suc i) h = first-at d n [] i (omega arith)
@@ -40,7 +41,7 @@ item-at items n i h = first-at blankItem n items i (omega (arith, first-length b
 
 pub lengths-length : (entries : List EntryIndex) (n : ℕ) → length (lengthsOf entries n) ≡ min n 1024
 unfolding lengthsOf
-lengths-length entries n = map-length _ (firstOf blankEntry (min n 1024) entries) ∙ first-length blankEntry (min n 1024) entries
+lengths-length entries n = map-length _ (firstRows blankEntry (min n 1024) entries) ∙ first-length blankEntry (min n 1024) entries
 
 pub lengths-few : (entries : List EntryIndex) (n : ℕ) → length (lengthsOf entries n) ≤ 1024
 lengths-few entries n = omega (arith, lengths-length entries n)
@@ -48,5 +49,5 @@ lengths-few entries n = omega (arith, lengths-length entries n)
 pub length-at : (entries : List EntryIndex) (n j : ℕ) → j < length (lengthsOf entries n) → getD (lengthsOf entries n) j 0 ≡ getD entries j blankEntry .«entry_len»
 unfolding lengthsOf
 length-at entries n j h =
-    map-at (λ (r : EntryIndex). r .«entry_len») blankEntry (firstOf blankEntry (min n 1024) entries) j
+    map-at (λ (r : EntryIndex). r .«entry_len») blankEntry (firstRows blankEntry (min n 1024) entries) j
     ∙ ap (λ (r : EntryIndex). r .«entry_len») (first-at blankEntry (min n 1024) entries j (omega (arith, lengths-length entries n)))

@@ -16,7 +16,8 @@ use Rattle.item_writer.specs.Refusing.{contentRefusal, contentInside}
 use Rattle.item_writer.specs.Private.{Room, Stored}
 use Rattle.item_writer.proofs.Refusals.{content-inside, content-allowed}
 use Rattle.item_writer.proofs.Stores.{stored-none, stored-then, stored-length, stored-same}
-use Rattle.list_writer.specs.Bytes.{itemsBytes, blankItem}
+use Rattle.log_item.specs.Blank.{blankItem}
+use Rattle.list_writer.specs.Bytes.{itemsBytes}
 use Rattle.list_writer.specs.Refusing.{fine, itemsVerdict}
 use Rattle.list_writer.proofs.Heads.{unless-fine, cond-fine}
 use Rattle.list_writer.proofs.Rest.{restBytes, bytes-row, bytes-item, bytes-end, bytes-start, restVerdict, told-row, told-item, told-start}

@@ -7,33 +7,26 @@ use lib.ListN.{length, drop}
 use Rattle.codec.specs.Shortest.{shortest}
 use Rattle.codec.specs.Word.{littleEndianBytes}
 use Rattle.crc.specs.Crc.{crcOf}
+use Rattle.log_item.specs.Blank.{blankItem, blankEntry}
 use Rattle.log_item.specs.Entries.{entriesOf}
-use Rattle.log_item.specs.declared.LogItemContent.the-variants as contents
 use Rattle.log_item.specs.declared.LogItem.{LogItem}
 use Rattle.log_item.specs.declared.EntryIndex.{EntryIndex}
 use Rattle.item_writer.specs.Bytes.{headBytes, tailsBytes}
 use Rattle.item_writer.specs.Answers.{rowLengths}
 
--- the first n of a list, and d for each that it lacks
-abbrev pub firstOf : {A : Type 0} → A → ℕ → List A → List A
-firstOf d zero xs = []
-firstOf d (suc n) [] = d ∷ firstOf d n []
-firstOf d (suc n) (x ∷ xs) = x ∷ firstOf d n xs
-
--- all 0: what reading outside an array would give
-abbrev pub blankItem : LogItem
-blankItem = record { «raft_group_id» = 0; content = contents.EntryIndexes (record { count = 0; «first_index» = 0 }) }
-
-abbrev pub blankEntry : EntryIndex
-blankEntry = record { index = 0; «entry_offset» = 0; «entry_len» = 0 }
+-- the first n of a list, and d for each that it lacks, as reading outside an array would give
+abbrev pub firstRows : {A : Type 0} → A → ℕ → List A → List A
+firstRows d zero xs = []
+firstRows d (suc n) [] = d ∷ firstRows d n []
+firstRows d (suc n) (x ∷ xs) = x ∷ firstRows d n xs
 
 -- the items of a table of 256 rows, as many as it says
 unfoldable pub itemsOf : List LogItem → ℕ → List LogItem
-itemsOf items n = firstOf blankItem n items
+itemsOf items n = firstRows blankItem n items
 
 -- the lengths of the entry rows that are lent: at most the 1,024 of the table
 unfoldable pub lengthsOf : List EntryIndex → ℕ → List ℕ
-lengthsOf entries n = map (λ (r : EntryIndex). r .«entry_len») (firstOf blankEntry (min n 1024) entries)
+lengthsOf entries n = map (λ (r : EntryIndex). r .«entry_len») (firstRows blankEntry (min n 1024) entries)
 
 -- items, each with the next of the lengths for its tails; the total t runs on
 unfoldable pub itemsBytes : List ℕ → List LogItem → List ℕ → ℕ → List ℕ

@@ -16,7 +16,8 @@ use Rattle.codec.specs.Shortest.{shortest}
 use Rattle.codec.proofs.Shortest.{spell-pos}
 use Rattle.codec.proofs.Words.{length-big, length-little, big-endian-back, little-endian-back}
 use Rattle.crc.specs.Crc.{crcOf}
-use Rattle.crc.proofs.Laws.{Bytes, crc-lt}
+use Rattle.codec.specs.Byte.{Bytes}
+use Rattle.crc.proofs.Laws.{crc-lt}
 use Rattle.log_item.specs.Got.{got}
 use Rattle.log_item.specs.declared.LogItem.{LogItem}
 use Rattle.list_writer.specs.Bytes.{itemsBytes, listBytes, footed, bodyBytes}

@@ -18,8 +18,8 @@ use Rattle.log_batch.proofs.LogBatch.encode_unchecked.Kinds as encode-u
 use Rattle.log_batch.proofs.LogBatch.encode_unchecked.Reads as encode-unchecked-reads
 use Rattle.log_batch.proofs.check_block.Kinds as check-block-kinds
 use Rattle.log_batch.proofs.check_block.Reads as check-block-reads
-use Rattle.log_batch.proofs.entry_view.Kinds as entry-view-kinds
-use Rattle.log_batch.proofs.entry_view.Reads as entry-view-reads
+use Rattle.log_batch.proofs.view.entry_view.Kinds as entry-view-kinds
+use Rattle.log_batch.proofs.view.entry_view.Reads as entry-view-reads
 use Rattle.log_batch.proofs.AtomicGroupStatus.parse.Kinds as parse-kinds
 use Rattle.log_batch.proofs.AtomicGroupStatus.parse.Reads as parse-reads
 

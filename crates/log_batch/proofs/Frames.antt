@@ -1,8 +1,8 @@
 -- What reading a header, the seals of a batch and the whole come to: a law for each way out of the code.
 -- Assumes nothing.
 use Prim.Native.Nat.{ℕ, zero, suc, _+_, _-_, _/_, _%_, _≤_, _<_}
-use mathlib.Core.Path.{_≡_, refl, sym, ap, ap₂, _∙_}
-use mathlib.Core.List.{List, []}
+use mathlib.Core.Path.{_≡_, refl, ap, ap₂, _∙_}
+use mathlib.Core.List.{List}
 use native.Mathlib.Omega.{arith}
 use borrow.Author.Tests.{le-leb, lt-leb, eq-eqb, ne-eqb}
 use lib.ListN.{length, take, drop, length-take, length-drop}
@@ -10,7 +10,7 @@ use lib.Seq.{take-take}
 use Rattle.codec.specs.Word.{bigEndian, readU64}
 use Rattle.codec.specs.declared.U64Read.the-variants.{Done, Eof}
 use Rattle.codec.proofs.Words.{u64-known, u64-ended}
-use Rattle.log_item.specs.Got.{Got, got, refused, done, _>>_}
+use Rattle.log_item.specs.Got.{got, refused, done, _>>_}
 use Rattle.log_item.specs.declared.Form.the-variants.{Any}
 use Rattle.log_item.proofs.Holds.{Holds, holds, after, at-most, equal, of-got}
 use Rattle.item_batch.specs.declared.LogItemBatch.{LogItemBatch}
@@ -21,8 +21,8 @@ use Rattle.item_batch.specs.Table.{emptyTable, tableOf, agreeing}
 use Rattle.item_batch.proofs.Sealing.{seal-long}
 use Rattle.log_batch.specs.declared.LogBatch.{LogBatch}
 use Rattle.log_batch.specs.Header.{frame, header}
-use Rattle.log_batch.specs.Batch.{blockOf, bodyOf, blockCheck, contentLength, passes, sealedBatch, batchTable, readBatch}
-use Rattle.log_batch.specs.View.{firstOf}
+use Rattle.log_batch.specs.Batch.{blockOf, bodyOf, blockCheck, contentLength, passes, sealedBatch, readBatch}
+use Rattle.refusal.specs.First.{firstOf}
 
 -- ---- the two words
 

@@ -1,47 +1,28 @@
 -- What telling the status of an item comes to: a law for each way out of the code.
 -- Assumes nothing.
-use Prim.Native.Nat.{ℕ, zero, suc, _+_, _-_, _≤_, _<_}
-use mathlib.Core.Path.{_≡_, refl, sym, ap, ap₂, _∙_}
-use mathlib.Core.Bool.{Bool, true, false, cond, _&&_}
+use Prim.Native.Nat.{ℕ, zero, suc, _+_}
+use mathlib.Core.Path.{_≡_, refl, sym, _∙_}
+use mathlib.Core.Bool.{Bool, true, false}
 use mathlib.Core.List.{List, [], _∷_, _++_}
-use native.Mathlib.Omega.{arith}
-use borrow.Author.Tests.{le-leb, lt-leb, leb-true, leb-false, eq-eqb, ne-eqb}
-use lib.Dec.{leb, eqb}
-use lib.ListN.{length, getD}
+use borrow.Author.Tests.{eq-eqb, ne-eqb}
+use lib.ListN.{getD}
 use Rattle.log_item.specs.Prefix.{prefix, begins, bytesOf}
 use Rattle.log_item.specs.declared.Span.{Span}
-use Rattle.log_item.specs.declared.Op.{Op}
 use Rattle.log_item.specs.declared.Op.the-variants.{Put, Del}
 use Rattle.log_item.specs.declared.Command.{Command}
 use Rattle.log_item.specs.declared.EntryIndexes.{EntryIndexes}
 use Rattle.log_item.specs.declared.KeyValue.{KeyValue}
-use Rattle.log_item.specs.declared.LogItemContent.{LogItemContent}
 use Rattle.log_item.specs.declared.LogItemContent.the-variants as contents
 use Rattle.log_item.specs.declared.LogItem.{LogItem}
 use Rattle.log_batch.specs.declared.AtomicGroupStatus.the-variants.{Begin, Middle, End}
 use Rattle.log_batch.specs.declared.StatusRead.{StatusRead}
 use Rattle.log_batch.specs.declared.StatusRead.the-variants.{Mark, NoMark, Refused}
-use Rattle.log_batch.specs.Status.{inside, isMark, statusByte, markOf, statusOf}
+use Rattle.log_item.specs.Prefix.{inside}
+use Rattle.log_batch.specs.Status.{isMark, statusByte, markOf, statusOf}
 
--- ---- a span in the store
+-- ---- the key of a mark
 
 module _ (s : List ℕ) (k : Span) where
-  pub lies-out : length s < k .at → false ≡ inside s k
-  lies-out h = let g : length s < k .at + k .len = omega arith in rw (lt-leb _ _ g)
-
-  pub lies-where : k .at ≤ length s → leb (k .len) (length s - k .at) ≡ inside s k
-  lies-where h = go (leb (k .len) (length s - k .at)) refl
-    where
-      go : (t : Bool) → leb (k .len) (length s - k .at) ≡ t → t ≡ inside s k
-      go true e = let g : k .at + k .len ≤ length s = omega (arith, leb-true (k .len) (length s - k .at) e) in rw (le-leb _ _ g)
-      go false e = let g : length s < k .at + k .len = omega (arith, leb-false (k .len) (length s - k .at) e) in rw (lt-leb _ _ g)
-
-  -- where the test passed
-  pub lies-in : {r : Bool} → r ≡ inside s k → r ≡ true → k .at + k .len ≤ length s
-  lies-in e h = leb-true (k .at + k .len) (length s) (sym e ∙ h)
-
-  -- ---- the key of a mark
-
   pub mark-length : (k .len ≡ 3 → ⊥) → false ≡ isMark s k
   mark-length h = rw (ne-eqb _ _ h)
 

@@ -72,6 +72,24 @@ body-small s checked xs ns {m} e = go (listVerdict s checked xs ns) e
     go (refused a b) q = omega (arith, ap (λ (x : Measured). x .length) q)
     go (fine t) q = at-fine t (ltb 4294967295 (n + 4)) refl q
 
+-- The verdict on a list whose measure has a length.
+pub verdict-of : (s : List ℕ) (checked : Bool) (xs : List LogItem) (ns : List ℕ) → (measureOf s checked xs ns .length ≡ 0 → ⊥)
+    → listVerdict s checked xs ns ≡ fine (measureOf s checked xs ns .total)
+unfolding measureOf measuredOf
+verdict-of s checked xs ns h = go (listVerdict s checked xs ns) h
+  where
+    n : ℕ
+    n = length (listBytes s xs ns)
+
+    at-fine : (t : ℕ) (b : Bool) → (cond b (measured 22 0 0 0) (measured 0 0 (n + 4) t) .length ≡ 0 → ⊥)
+        → t ≡ cond b (measured 22 0 0 0) (measured 0 0 (n + 4) t) .total
+    at-fine t true k = absurd (k refl)
+    at-fine t false k = refl
+
+    go : (v : Verdict) → (measuredOf v n .length ≡ 0 → ⊥) → v ≡ fine (measuredOf v n .total)
+    go (refused a b) k = absurd (k refl)
+    go (fine t) k = ap fine (at-fine t (ltb 4294967295 (n + 4)) k)
+
 -- ---- the answer
 
 something : (items content : ℕ) → (items ≡ 0 → ⊥) ⊎ (content ≡ 0 → ⊥) → (eqb items 0 && eqb content 0) ≡ false
@@ -118,6 +136,7 @@ module _ (m : Measured) (items : ℕ) (content : List ℕ) (room : ℕ) {r : Enc
 pub record Planned (m : Measured) (content : List ℕ) (room : ℕ) (r : Encoded) : Type 0 where
   pub some : m .length ≡ 0 → ⊥
   pub few : length content ≤ 2147483647
+  pub total : m .total ≡ length content
   pub size : r .length ≡ 16 + length (blockBytes content) + m .length
   pub fits : r .length ≤ room
 
@@ -136,7 +155,7 @@ planned m items content room {r} told h = first (eqb items 0 && eqb (length cont
         → r ≡ cond b (encoded 0 0 size) (encoded 21 0 0) → Planned m content room r
     fifth some few same true t e =
         let long : r .length ≡ size = ap (λ (x : Encoded). x .length) e in
-        record { some = some; few = omega arith; size = long; fits = omega (arith, leb-true size room t) }
+        record { some = some; few = omega arith; total = same; size = long; fits = omega (arith, leb-true size room t) }
     fifth some few same false t e = none e
 
     fourth : (m .length ≡ 0 → ⊥) → m .total ≤ 2147483647 → (b : Bool) → eqb (m .total) (length content) ≡ b

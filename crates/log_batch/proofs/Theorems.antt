@@ -12,7 +12,7 @@ use lib.Seq.{take-append-seam, take-append-le, drop-append-le}
 use Rattle.codec.specs.Number.{readFrom, readNumber}
 use Rattle.codec.specs.Shortest.{spell, shortest}
 use Rattle.codec.specs.Word.{bigEndian}
-use Rattle.crc.proofs.Laws.{Bytes}
+use Rattle.codec.specs.Byte.{Bytes}
 use Rattle.log_item.specs.Got.{Got, got, refused}
 use Rattle.log_item.specs.Reading.{byte, number, span, command, putAt, keyValue, firstIndex, entryIndexes, content, head, tail, tails, oneItem}
 use Rattle.log_item.specs.declared.Span.{Span}
@@ -20,11 +20,13 @@ use Rattle.log_item.specs.declared.LogItem.{LogItem}
 use Rattle.log_item.specs.declared.EntryIndex.{EntryIndex}
 use Rattle.list_writer.specs.declared.Encoded.{Encoded}
 use Rattle.list_writer.specs.Bytes.{itemsBytes, listBytes, bodyBytes}
-use Rattle.list_writer.specs.Refusing.{itemsVerdict, listVerdict}
+use Rattle.list_writer.specs.Refusing.{fine, itemsVerdict, listVerdict}
 use Rattle.list_writer.specs.Answers.{measuredOf, measureOf, encoded, laid}
 use Rattle.item_batch.specs.Reading.{accepted, rejected}
 use Rattle.item_batch.specs.Body.{readBody}
 use Rattle.item_batch.specs.declared.Wanted.the-variants.{Exactly}
+use Rattle.item_batch.specs.Writing.{bodyItems, bodyRows, keysAndContents, AllSmall}
+use Rattle.item_batch.proofs.Written.{written-bytes, written-kept, read-back}
 use Rattle.item_batch.specs.Table.{tableOf, emptyTable, agreeing}
 use Rattle.log_batch.specs.declared.LogBatch.{LogBatch}
 use Rattle.log_batch.specs.Header.{frame, header}
@@ -32,6 +34,7 @@ use Rattle.log_batch.specs.Batch.{blockOf, bodyOf, contentLength, sealed
 use Rattle.log_batch.specs.Written.{blockBytes, framed, frameOf, batchEncoded, BatchWritten}
 use Rattle.log_batch.specs.Examples.{AllRight, table}
 use Rattle.log_batch.proofs.Frames.{header-known, batch-known}
+use Rattle.log_batch.proofs.Planning.{planned, verdict-of}
 use Rattle.log_batch.proofs.Framing.{whole}
 use Rattle.log_batch.proofs.Again.{body-good, content-size, block-again, body-again, content-again, sealed-again}
 
@@ -170,6 +173,32 @@ module _ {checked : Bool} {xs : List LogItem} {ns s content : List ℕ} {signatu
       let sealed = sealed-again content body t (rw (k .size) at (k .few)) signature bytes (body-good s xs ns signature items key) in
       ap (λ (l : List ℕ). readBatch l signature) batch-stands ∙ body-read (framed content body ++ t) signature sealed
       ∙ (rw (size, body-again content body t, long, block))
+
+  -- Reading a written batch gives the list with its places worked out, its rows, and the content's length as the entry total. The numbers of
+  -- the items are those of their types, below 2^64, and store and content are bytes.
+  module _ (small : AllSmall xs) where
+    fine-total : listVerdict s checked xs ns ≡ fine (length content)
+    fine-total =
+        let k = planned (measureOf s checked xs ns) (length xs) content (length out) (w .answer) h in
+        verdict-of s checked xs ns (k .some) ∙ ap fine (k .total)
+
+    pub batch-read-back : Bytes s → Bytes content → signature < 2 ^ 32
+        → readBatch later signature
+        ≡ tableOf (record { at = 16 + length (blockBytes content); len = length (bodyBytes s xs ns signature) })
+        (record { at = 16; len = length (blockBytes content) })
+        (accepted (bodyItems s xs ns) (bodyRows xs ns) (length content) (length (listBytes s xs ns)))
+    batch-read-back store bytes key =
+        let items : Bytes (listBytes s xs ns) = written-bytes s checked xs ns (length content) small fine-total store in
+        let read = read-back s checked xs ns (length content) small fine-total store signature key in
+        written-read bytes items key ∙ (rw (read, eq-eqb (length content) (length content) refl))
+
+    -- Each key and content has, in the body of the written batch, the bytes that it had.
+    pub batch-kept : keysAndContents (bodyOf (frameOf content body) later) (bodyItems s xs ns) ≡ keysAndContents s xs
+    batch-kept =
+        let t : List ℕ = drop (r .length) out in
+        ap (λ (l : List ℕ). keysAndContents (bodyOf (frameOf content body) l) (bodyItems s xs ns)) batch-stands
+        ∙ ap (λ (l : List ℕ). keysAndContents l (bodyItems s xs ns)) (body-again content body t)
+        ∙ written-kept s checked xs ns (length content) small fine-total signature
 
 -- Where the answer has no length, the buffer is as it was.
 pub batch-absent : {checked : Bool} {xs : List LogItem} {ns s content : List ℕ} {signature : ℕ} {out : List ℕ} {r : Encoded} {later : List ℕ}

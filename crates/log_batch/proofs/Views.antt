@@ -12,7 +12,8 @@ use lib.ListN.{length, take, drop}
 use Rattle.pipe_log.specs.declared.LogQueue.the-variants.{Append, Rewrite}
 use Rattle.pipe_log.specs.declared.Location.{Location}
 use Rattle.log_batch.specs.Batch.{blockCheck, contentLength}
-use Rattle.log_batch.specs.View.{named, firstOf, viewCheck, viewed}
+use Rattle.refusal.specs.First.{firstOf}
+use Rattle.log_batch.specs.View.{named, viewCheck, viewed}
 use Rattle.log_batch.proofs.Frames.{first-fails, first-passes}
 
 module _ (row : Location) (block : List ℕ) where

@@ -3,9 +3,9 @@
 use Prim.Native.Nat.{ℕ, zero, suc, _+_}
 use mathlib.Core.Bool.{Bool, cond, _&&_}
 use mathlib.Core.List.{List, [], _∷_, _++_}
-use lib.Dec.{leb, eqb}
-use lib.ListN.{length, getD}
-use Rattle.log_item.specs.Prefix.{prefix, begins, bytesOf}
+use lib.Dec.{eqb}
+use lib.ListN.{getD}
+use Rattle.log_item.specs.Prefix.{prefix, begins, bytesOf, inside}
 use Rattle.log_item.specs.declared.Span.{Span}
 use Rattle.log_item.specs.declared.Op.{Op}
 use Rattle.log_item.specs.declared.Op.the-variants.{Put, Del}
@@ -15,9 +15,6 @@ use Rattle.log_item.specs.declared.LogItem.{LogItem}
 use Rattle.log_batch.specs.declared.AtomicGroupStatus.the-variants.{Begin, Middle, End}
 use Rattle.log_batch.specs.declared.StatusRead.{StatusRead}
 use Rattle.log_batch.specs.declared.StatusRead.the-variants.{Mark, NoMark, Refused}
-
-abbrev pub inside : List ℕ → Span → Bool
-inside s k = leb (k .at + k .len) (length s)
 
 -- the key is the prefix and the byte 01
 abbrev pub isMark : List ℕ → Span → Bool

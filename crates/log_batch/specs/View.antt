@@ -5,6 +5,7 @@ use mathlib.Core.Bool.{cond}
 use mathlib.Core.List.{List, []}
 use lib.Dec.{leb, eqb}
 use lib.ListN.{length, take, drop}
+use Rattle.refusal.specs.First.{firstOf}
 use Rattle.pipe_log.specs.declared.LogQueue.{LogQueue}
 use Rattle.pipe_log.specs.declared.LogQueue.the-variants.{Append, Rewrite}
 use Rattle.pipe_log.specs.declared.Location.{Location}
@@ -13,11 +14,6 @@ use Rattle.log_batch.specs.Batch.{blockCheck, contentLength}
 abbrev pub named : LogQueue → List ℕ → List ℕ → List ℕ
 named Append append rewrite = append
 named Rewrite append rewrite = rewrite
-
--- the first check that fails, else 0
-abbrev pub firstOf : ℕ → ℕ → ℕ
-firstOf zero r = r
-firstOf (suc n) r = suc n
 
 unfoldable pub viewCheck : Location → List ℕ → ℕ
 viewCheck row block =

@@ -1,5 +1,9 @@
 // Whole batches, read and written: header, block and body; the bytes of an entry; and the status of an atomic group. From log_batch.rs,
 // LogBatch and AtomicGroupStatus.
+mod status;
+mod view;
+
+pub use view::entry_view;
 ghost use mathlib.Core.Path.{_≡_};
 ghost use mathlib.Core.Bool.{true, false};
 ghost use Prim.Native.Nat.{_+_, _≤_, _<_, _-_};
@@ -10,8 +14,8 @@ ghost use Rattle.log_batch.specs.Written.{blockBytes, frontBytes, batchE
 ghost use Rattle.item_batch.specs.Seal.{sealCheck};
 ghost use Rattle.item_batch.specs.Writing.{listed, rowLengths};
 ghost use Rattle.item_writer.specs.Private.{Room, Stored};
-ghost use Rattle.log_batch.specs.View.{named, firstOf, viewCheck, viewed};
-ghost use Rattle.log_batch.specs.Status.{inside, isMark, statusByte, markOf, statusOf};
+ghost use Rattle.refusal.specs.First.{firstOf};
+ghost use Rattle.log_batch.specs.Status.{statusOf};
 use codec::U64Read;
 use item_batch::LogItemBatch;
 use item_batch::Wanted;
@@ -21,8 +25,6 @@ use log_item::LogItem;
 use log_item::LogItemContent;
 use log_item::Op;
 use log_item::Span;
-use pipe_log::Location;
-use pipe_log::LogQueue;
 use refusal::Refusal;
 
 // The frame of a batch, as its header states it.
@@ -307,55 +309,6 @@ fn content_len(len: usize) -> usize
     len - LogBatch::CHECKSUM_LEN
 }
 
-// The bytes of an entry, as a part of whichever block its row's queue names. Where a check fails the part is empty; `refused` is set at
-// each call to the number of that check, or to 0.
-pub fn entry_view<'a>(
-    row: Location,
-    append: &'a [u8],
-    rewrite: &'a [u8],
-    refused: &mut u32,
-) -> &'a [u8]
-    ensures { λ r. ⌜ (now (refused .exit) ≡ viewCheck row (named (row .queue) (now (append .entry)) (now (rewrite .entry))))
-        × (now r ≡ viewed (viewCheck row (named (row .queue) (now (append .entry)) (now (rewrite .entry)))) row (named (row .queue) (now (append .entry)) (now (rewrite .entry)))) ⌝ }
-{
-    let queue = row.queue;
-    match queue {
-        LogQueue::Append => part_of(row, append, refused),
-        LogQueue::Rewrite => part_of(row, rewrite, refused),
-    }
-}
-
-// The same of one block.
-fn part_of<'a>(row: Location, block: &'a [u8], refused: &mut u32) -> &'a [u8]
-    ensures { λ r. ⌜ (now (refused .exit) ≡ viewCheck row (now (block .entry))) × (now r ≡ viewed (viewCheck row (now (block .entry))) row (now (block .entry))) ⌝ }
-{
-    let number = check_entry(row, block);
-    *refused = number;
-    if number != refusal::NONE {
-        return &block[..0];
-    }
-    let start = row.entry_offset as usize;
-    let end = start + row.entry_len as usize;
-    &block[start..end]
-}
-
-// The first check of an entry's row against its block that fails, or 0.
-fn check_entry(row: Location, block: &[u8]) -> u32
-    ensures { λ r. ⌜ r ≡ viewCheck row (now (block .entry)) ⌝ }
-{
-    if block.len() as u64 != row.len {
-        return refusal::BLOCK_DIFFERS;
-    }
-    let broken = check_block(block);
-    if broken != refusal::NONE {
-        return broken;
-    }
-    if content_len(block.len()) < row.entry_offset as usize + row.entry_len as usize {
-        return refusal::SPAN_OUTSIDE;
-    }
-    refusal::NONE
-}
-
 // What a mark says of its group of batches.
 pub enum AtomicGroupStatus {
     Begin,
@@ -382,90 +335,14 @@ impl AtomicGroupStatus {
             LogItemContent::Kv(kv) => {
                 let key = kv.key;
                 let op = kv.op;
-                if !lies_in(store, key) {
-                    return outside();
+                if !log_item::lies_in(store, key) {
+                    return status::outside();
                 }
                 match op {
                     Op::Del => StatusRead::NoMark,
-                    Op::Put { value } => put_status(item.raft_group_id, key, value, store),
+                    Op::Put { value } => status::put_status(item.raft_group_id, key, value, store),
                 }
             }
         }
     }
-}
-
-// What a put marks, its key lying in the store.
-fn put_status(group: u64, key: Span, value: Span, store: &[u8]) -> StatusRead
-    ensures { λ r. ⌜ r ≡ markOf group key (Op.Put value) (now (store .entry)) ⌝ }
-{
-    if !lies_in(store, value) {
-        return outside();
-    }
-    if !is_mark(store, key) {
-        return StatusRead::NoMark;
-    }
-    let at = value.at;
-    if value.len != 1 {
-        return StatusRead::NoMark;
-    }
-    status_byte(group, store[at])
-}
-
-// 0 begin, 1 middle, 2 end.
-fn status_byte(group: u64, b: u8) -> StatusRead
-    ensures { λ r. ⌜ r ≡ statusByte group b ⌝ }
-{
-    if b == 0 {
-        return StatusRead::Mark {
-            id: group,
-            status: AtomicGroupStatus::Begin,
-        };
-    }
-    if b == 1 {
-        return StatusRead::Mark {
-            id: group,
-            status: AtomicGroupStatus::Middle,
-        };
-    }
-    if b == 2 {
-        return StatusRead::Mark {
-            id: group,
-            status: AtomicGroupStatus::End,
-        };
-    }
-    StatusRead::Refused(Refusal {
-        number: refusal::STATUS_UNKNOWN,
-        item: 0,
-    })
-}
-
-fn outside() -> StatusRead
-    ensures { λ r. ⌜ r ≡ StatusRead.Refused (record { number = 13; item = 0 }) ⌝ }
-{
-    StatusRead::Refused(Refusal {
-        number: refusal::SPAN_OUTSIDE,
-        item: 0,
-    })
-}
-
-// Whether all bytes of a span are in the store.
-fn lies_in(store: &[u8], span: Span) -> bool
-    ensures { λ r. ⌜ r ≡ inside (now (store .entry)) span ⌝ }
-{
-    let at = span.at;
-    let len = span.len;
-    if store.len() < at {
-        return false;
-    }
-    len <= store.len() - at
-}
-
-// Whether a key is the internal prefix and the byte 01.
-fn is_mark(store: &[u8], key: Span) -> bool
-    ensures { λ r. ⌜ r ≡ isMark (now (store .entry)) key ⌝ }
-{
-    if key.len != 3 {
-        return false;
-    }
-    log_item::starts_with(store, key, b"__\x01")
 }

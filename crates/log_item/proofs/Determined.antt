@@ -21,12 +21,14 @@ use Rattle.log_item.proofs.LogItem.entries.Kinds as entries-kinds
 use Rattle.log_item.proofs.LogItem.entries.Reads as entries-reads
 use Rattle.log_item.proofs.EntryIndexes.decode_tail.Kinds as decode-tail-kinds
 use Rattle.log_item.proofs.EntryIndexes.decode_tail.Reads as decode-tail-reads
-use Rattle.log_item.proofs.read_number.Kinds as read-number-kinds
-use Rattle.log_item.proofs.read_number.Reads as read-number-reads
-use Rattle.log_item.proofs.starts_with.Kinds as starts-with-kinds
-use Rattle.log_item.proofs.starts_with.Reads as starts-with-reads
-use Rattle.log_item.proofs.is_internal_key.Kinds as is-internal-key-kinds
-use Rattle.log_item.proofs.is_internal_key.Reads as is-internal-key-reads
+use Rattle.log_item.proofs.piece.read_number.Kinds as read-number-kinds
+use Rattle.log_item.proofs.piece.read_number.Reads as read-number-reads
+use Rattle.log_item.proofs.prefix.starts_with.Kinds as starts-with-kinds
+use Rattle.log_item.proofs.prefix.starts_with.Reads as starts-with-reads
+use Rattle.log_item.proofs.prefix.lies_in.Kinds as lies-in-kinds
+use Rattle.log_item.proofs.prefix.lies_in.Reads as lies-in-reads
+use Rattle.log_item.proofs.prefix.is_internal_key.Kinds as is-internal-key-kinds
+use Rattle.log_item.proofs.prefix.is_internal_key.Reads as is-internal-key-reads
 
 -- An answer says in the words of the definitions all that it says.
 field-same : (a b : Field) → fieldGot a ≡ fieldGot b → a ≡ b
@@ -75,6 +77,9 @@ decode-tail κs a x y s t p q = tail-same x y (p ∙ sym q)
 
 pub read-number : OneAnswer 1 read-number-kinds.ps read-number-kinds.r read-number-reads.Post (λ κs x y s t. x ≡ y)
 read-number κs a x y s t p q = field-same x y (p ∙ sym q)
+
+pub lies-in : OneAnswer 1 lies-in-kinds.ps lies-in-kinds.r lies-in-reads.Post (λ κs x y s t. x ≡ y)
+lies-in κs a x y s t p q = p ∙ sym q
 
 pub is-internal-key : OneAnswer 1 is-internal-key-kinds.ps is-internal-key-kinds.r is-internal-key-reads.Post (λ κs x y s t. x ≡ y)
 is-internal-key κs a x y s t p q = p ∙ sym q

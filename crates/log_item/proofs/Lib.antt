@@ -11,4 +11,5 @@ pub mod Parts
 pub mod Passing
 pub mod Known
 pub mod Starts
+pub mod Inside
 pub mod Determined

@@ -20,7 +20,8 @@ use Rattle.log_item.specs.Got.{got}
 use Rattle.log_item.specs.Spelling.{NumberIn}
 use Rattle.log_item.specs.Reading.{numberGot, number}
 use Rattle.log_item.proofs.Holds.{Holds, holds, refuses, after, equal}
-use Rattle.log_item.proofs.Place.{At, Found, Bytes, bytes-at}
+use Rattle.codec.specs.Byte.{Bytes}
+use Rattle.log_item.proofs.Place.{At, Found, bytes-at}
 
 -- What a form asks of the list that is read: where the shortest spelling alone is taken, the list is of bytes.
 abbrev pub Asks : Form → List ℕ → Type 0

@@ -1,14 +1,15 @@
 -- Bytes that stand in a list from one place to another, and the reading of one byte.
 -- Assumes nothing.
-use Prim.Native.Nat.{ℕ, zero, suc, _+_, _≤_, _<_}
+use Prim.Native.Nat.{ℕ, _+_, _≤_, _<_}
 use mathlib.Core.Path.{_≡_, refl, sym, ap, _∙_}
 use mathlib.Core.List.{List, [], _∷_, _++_, append-assoc}
 use native.Mathlib.Omega.{arith}
 use native.Mathlib.Numerals.{add-one}
-use lib.Dec.{lit<}
 use lib.ListN.{length, getD, drop, length-append, length-drop}
-use lib.Seq.{drop-cons, drop-drop, drop-append-seam, getD-drop}
+use lib.Seq.{drop-cons, drop-drop, drop-append-seam}
 use borrow.Author.Tests.{lt-ltb}
+use Rattle.codec.specs.Byte.{Bytes}
+use Rattle.codec.proofs.Bytes.{bytes-front, bytes-drop}
 use Rattle.log_item.specs.Got.{got}
 use Rattle.log_item.specs.Reading.{byte}
 use Rattle.log_item.proofs.Holds.{Holds, holds, below}
@@ -23,16 +24,6 @@ pub record Found (s : List ℕ) (P : List ℕ → Type 0) (p q : ℕ) : Type 0 w
   pub bytes : List ℕ
   pub at : At s p q bytes
   pub has : P bytes
-
--- what a `&[u8]` says of its list
-abbrev pub Bytes : List ℕ → Type 0
-Bytes s = (i : ℕ) → getD s i 0 < 256
-
--- the same of its beginning
-bytes-front : (x y : List ℕ) → Bytes (x ++ y) → Bytes x
-bytes-front [] y b i = lit< tt
-bytes-front (d ∷ x) y b zero = b 0
-bytes-front (d ∷ x) y b (suc i) = bytes-front x y (λ j. b (suc j)) i
 
 -- Bytes with others behind them begin them.
 pub at-front : (x y : List ℕ) → At (x ++ y) 0 (length x) x
@@ -63,10 +54,7 @@ module _ {s : List ℕ} where
 
   -- What stands in a list of bytes is bytes.
   pub bytes-at : {p q : ℕ} {x : List ℕ} → At s p q x → Bytes s → Bytes x
-  bytes-at {p} {q} {x} f b = bytes-front x (drop q s) (rw (f .stand) at in-drop)
-    where
-      in-drop : Bytes (drop p s)
-      in-drop i = rw getD-drop (b (p + i))
+  bytes-at {p} {q} {x} f b = bytes-front x (drop q s) (rw (f .stand) at (bytes-drop p s b))
 
   -- A byte that stands at a place is read there.
   pub complete-byte : {b p q : ℕ} → At s p q (b ∷ []) → byte s p ≡ got b q

@@ -2,10 +2,9 @@
 -- Assumes nothing.
 use Prim.Native.Nat.{ℕ, _+_}
 use mathlib.Core.List.{List}
-use Rattle.log_item.specs.declared.EntryIndex.{EntryIndex}
 use lib.ListN.{length}
 use Rattle.log_item.specs.Got.{Got, got, refused, Reading, done, bind, _>>=_}
-use Rattle.log_item.specs.Reading.{Read, tails, oneItem}
+use Rattle.log_item.specs.Reading.{tails, oneItem}
 use Rattle.log_item.specs.declared.Form.{Form}
 use Rattle.log_item.specs.declared.Span.{Span}
 use Rattle.log_item.specs.declared.Command.{Command}

@@ -6,3 +6,4 @@ pub mod Rows
 pub mod Reading
 pub mod Answers
 pub mod Prefix
+pub mod Blank

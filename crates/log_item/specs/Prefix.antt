@@ -1,10 +1,10 @@
--- The internal prefix of a key, and the bytes of a span.
+-- The bytes of a span, whether they lie in the store, and the internal prefix of a key.
 -- Assumes nothing.
-use Prim.Native.Nat.{ℕ}
+use Prim.Native.Nat.{ℕ, _+_}
 use mathlib.Core.Bool.{Bool, true, false, _&&_}
 use mathlib.Core.List.{List, [], _∷_}
-use lib.Dec.{eqb}
-use lib.ListN.{take, drop}
+use lib.Dec.{eqb, leb}
+use lib.ListN.{length, take, drop}
 use Rattle.log_item.specs.declared.Span.{Span}
 
 -- INTERNAL_KEY_PREFIX of src/lib.rs
@@ -20,3 +20,7 @@ begins (b ∷ bs) (p ∷ ps) = eqb b p && begins bs ps
 -- the bytes of a span
 abbrev pub bytesOf : List ℕ → Span → List ℕ
 bytesOf s k = take (k .len) (drop (k .at) s)
+
+-- all of them are there
+abbrev pub inside : List ℕ → Span → Bool
+inside s k = leb (k .at + k .len) (length s)

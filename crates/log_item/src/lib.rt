@@ -1,16 +1,22 @@
 // One item of a log batch: its types, and reading it at a place of a lent body. From log_batch.rs, EntryIndexes to LogItem.
 //
 // Every public function takes any arguments: a place may lie anywhere, past the end too. A refusal is a number of document 01.
-ghost use mathlib.Core.Path.{_≡_};
-ghost use Prim.Native.Nat.{_-_, min};
-ghost use Rattle.log_item.specs.Entries.{entriesOf};
-ghost use Rattle.log_item.specs.Reading.{number, byte, span, command, putAt, keyValue, firstIndex, entryIndexes, content, head, tail};
-ghost use Rattle.log_item.specs.Answers.{fieldGot, spanGot, commandGot, keyValueGot, entriesGot, contentGot, headGot, tailGot, itemGot, passItem, passTails};
-ghost use Rattle.log_item.specs.Prefix.{prefix, begins, bytesOf};
-use codec::NumberRead;
+mod entries;
+mod piece;
+mod prefix;
 
-// What Form::Plain alone refuses. Document 01 has no such number: it is shown to the plain-form test, which answers no.
-const NOT_SHORTEST: u32 = 8;
+pub use piece::read_number;
+pub use prefix::is_internal_key;
+pub use prefix::lies_in;
+pub use prefix::starts_with;
+ghost use mathlib.Core.Path.{_≡_};
+ghost use Rattle.log_item.specs.Entries.{entriesOf};
+ghost use Rattle.log_item.specs.Reading.{command, putAt, keyValue, entryIndexes, content, head, tail};
+ghost use Rattle.log_item.specs.Answers.{commandGot, keyValueGot, entriesGot, contentGot, headGot, tailGot, itemGot, passItem};
+use entries::read_first_index;
+use entries::skip_tails;
+use piece::read_byte;
+use piece::read_span;
 
 // A group's log is cleaned, or compacted up to an index.
 pub enum Command {
@@ -239,36 +245,6 @@ impl EntryIndexes {
     }
 }
 
-// The first index of `count` entries, where there are any.
-fn read_first_index(buf: &[u8], at: usize, count: usize, form: Form) -> EntryIndexesRead
-    ensures { λ r. ⌜ entriesGot r ≡ firstIndex form (now (buf .entry)) count at ⌝ }
-{
-    if count == 0 {
-        return EntryIndexesRead::Done {
-            entries: EntryIndexes {
-                count: 0,
-                first_index: 0,
-            },
-            next: at,
-        };
-    }
-    match read_number(buf, at, form) {
-        Field::Done {
-            value: first_index,
-            next,
-        } => {
-            if u64::MAX - first_index < (count - 1) as u64 {
-                return EntryIndexesRead::Refused(refusal::INDEX_TOO_LARGE);
-            }
-            EntryIndexesRead::Done {
-                entries: EntryIndexes { count, first_index },
-                next,
-            }
-        }
-        Field::Refused(number) => EntryIndexesRead::Refused(number),
-    }
-}
-
 impl Command {
     fn decode(buf: &[u8], at: usize, form: Form) -> CommandRead
         ensures { λ r. ⌜ commandGot r ≡ command form (now (buf .entry)) at ⌝ }
@@ -382,121 +358,4 @@ fn read_content(buf: &[u8], at: usize, used: usize, kind: u64, form: Form) -> Co
         };
     }
     ContentRead::Refused(refusal::ITEM_TYPE_UNKNOWN)
-}
-
-// Goes over `count` tails: the total and the place after them.
-fn skip_tails(buf: &[u8], at: usize, count: usize, before: u32, form: Form) -> TailRead
-    ensures { λ r. ⌜ tailGot r ≡ passTails form (now (buf .entry)) count before at ⌝ }
-{
-    let mut left = count;
-    let mut total = before;
-    let mut place = at;
-    while 0 < left {
-        match EntryIndexes::decode_tail(buf, place, total, form) {
-            TailRead::Done { total: after, next } => {
-                total = after;
-                place = next;
-                left -= 1;
-            }
-            TailRead::Refused(number) => {
-                return TailRead::Refused(number);
-            }
-        }
-    }
-    TailRead::Done { total, next: place }
-}
-
-// A length and as many bytes: where these stand.
-fn read_span(buf: &[u8], at: usize, form: Form) -> SpanRead
-    ensures { λ r. ⌜ spanGot r ≡ span form (now (buf .entry)) at ⌝ }
-{
-    match read_number(buf, at, form) {
-        Field::Done { value, next } => {
-            if ((buf.len() - next) as u64) < value {
-                return SpanRead::Refused(refusal::SPAN_OUTSIDE);
-            }
-            let len = value as usize;
-            SpanRead::Done {
-                span: Span { at: next, len },
-                next: next + len,
-            }
-        }
-        Field::Refused(number) => SpanRead::Refused(number),
-    }
-}
-
-// The number at a place, in the form asked for; what Form::Plain alone refuses, it refuses with 8.
-pub fn read_number(buf: &[u8], at: usize, form: Form) -> Field
-    ensures { λ r. ⌜ fieldGot r ≡ number form (now (buf .entry)) at ⌝ }
-{
-    match codec::decode_var_u64(buf, at) {
-        NumberRead::Done { value, next } => {
-            if let Form::Plain = form {
-                if next - at != codec::var_u64_len(value) {
-                    return Field::Refused(NOT_SHORTEST);
-                }
-            }
-            Field::Done { value, next }
-        }
-        NumberRead::Eof => Field::Refused(refusal::NUMBER_BROKEN),
-        NumberRead::Overflow => Field::Refused(refusal::NUMBER_BROKEN),
-    }
-}
-
-fn read_byte(buf: &[u8], at: usize) -> Field
-    ensures { λ r. ⌜ fieldGot r ≡ byte (now (buf .entry)) at ⌝ }
-{
-    if at < buf.len() {
-        Field::Done {
-            value: wide(buf[at]),
-            next: at + 1,
-        }
-    } else {
-        Field::Refused(refusal::NUMBER_BROKEN)
-    }
-}
-
-fn wide(b: u8) -> u64
-    ensures { λ r. ⌜ r ≡ b ⌝ }
-{
-    b as u64
-}
-
-// Whether the key begins with the internal prefix.
-pub fn is_internal_key(store: &[u8], key: Span) -> bool
-    ensures { λ r. ⌜ r ≡ begins (bytesOf (now (store .entry)) key) prefix ⌝ }
-{
-    starts_with(store, key, b"__")
-}
-
-// Whether the bytes of a span begin with `start`. Bytes of the span that lie outside the store are not there.
-pub fn starts_with(store: &[u8], span: Span, start: &[u8]) -> bool
-    ensures { λ r. ⌜ r ≡ begins (bytesOf (now (store .entry)) span) (now (start .entry)) ⌝ }
-{
-    let at = span.at;
-    let len = span.len;
-    if there(store.len(), at, len) < start.len() {
-        return false;
-    }
-    let mut i = 0;
-    while i < start.len() {
-        if store[at + i] != start[i] {
-            return false;
-        }
-        i += 1;
-    }
-    true
-}
-
-// How many of `len` bytes from a place on there are among `all`.
-fn there(all: usize, at: usize, len: usize) -> usize
-    ensures { λ r. ⌜ r ≡ min len (all - at) ⌝ }
-{
-    if all < at {
-        return 0;
-    }
-    if all - at < len {
-        return all - at;
-    }
-    len
 }

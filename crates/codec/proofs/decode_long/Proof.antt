@@ -1,9 +1,8 @@
 -- `codec::decode_long` meets its contract. The loop's invariant: j bytes are read, their number is below 2 ^ (7 * j), and the whole answer is that number below what is left to read.
 -- Assumes nothing.
-use Prim.Native.Nat.{ℕ, _+_, _-_, _*_, _^_, _≤_, _<_}
+use Prim.Native.Nat.{_+_, _-_, _*_, _^_, _≤_, _<_}
 use mathlib.Core.Path.{_≡_}
 use native.Mathlib.Omega.{arith}
-use lib.ListN.{length}
 use borrow.Author.Needs.{needs}
 use Rattle.codec.specs.Number.{readNumber}
 use Rattle.codec.proofs.Reading.{onto, left, first-long, grown, grown-fits, turn-last, turn-more, turn-short, turn-over, turn-tenth}

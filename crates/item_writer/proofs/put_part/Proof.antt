@@ -1,10 +1,10 @@
 -- `item_writer::put_part` meets its contract.
 -- Assumes nothing.
-use Rattle.item_writer.proofs.Lengths.{inside-bound, part-named}
+use Rattle.log_item.proofs.Inside.{inside-bound}
+use Rattle.item_writer.proofs.Lengths.{part-named}
 use Rattle.codec.proofs.Writing.{of-bytes}
 use denote.Ref.{now}
 use Rattle.item_writer.proofs.Stores.{took, never-short}
-use Rattle.item_writer.proofs.Lengths.{inside-bound}
 use native.Mathlib.Omega.{arith}
 use borrow.Author.Needs.{needs}
 use Rattle.item_writer.proofs.put_part.Statement.{statement}

@@ -2,9 +2,7 @@
 -- Assumes nothing.
 use native.Mathlib.Omega.{arith}
 use Rattle.item_writer.proofs.Tails.{Sizing, sizing-start, sizing-past, sizing-next, sizing-end}
-use Prim.Native.Nat.{_≤_, _-_}
-use lib.ListN.{length}
-use mathlib.Core.Path.{_≡_}
+use Prim.Native.Nat.{_-_}
 use borrow.Author.Needs.{needs}
 use Rattle.item_writer.proofs.tails_size.Statement.{statement}
 use Rattle.item_writer.proofs.tails_size.Tie as tie

@@ -3,7 +3,6 @@
 use Rattle.log_item.proofs.Fields.{learnt}
 use Rattle.log_batch.specs.Header.{headerGot}
 use denote.Ref.{now}
-use mathlib.Core.Path.{_∙_}
 use Rattle.log_batch.proofs.Frames.{batch-known, table-refused, table-read}
 use native.Mathlib.Omega.{arith}
 use borrow.Author.Needs.{needs}

@@ -1,0 +1,14 @@
+-- `item_writer::refusing::has_room` meets its contract.
+-- Assumes nothing.
+use Rattle.item_writer.proofs.Lengths.{past-end, room-left}
+use Rattle.item_writer.proofs.refusing.has_room.Statement.{statement}
+use Rattle.item_writer.proofs.refusing.has_room.Tie as tie
+
+returns : tie.Need-returns
+returns c = past-end _ _ _ (c .if1 .taken)
+
+returns-2 : tie.Need-returns-2
+returns-2 c = room-left _ _ _ (c .if1 .left)
+
+pub has-room-spec : {M : Type 1} → statement M
+has-room-spec = tie.close (tie.spec returns returns-2)

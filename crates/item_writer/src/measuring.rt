@@ -1,0 +1,88 @@
+// The lengths of the pieces of an item, none above the largest number.
+ghost use mathlib.Core.Path.{_≡_};
+ghost use Prim.Native.Nat.{_+_, min};
+ghost use lib.ListN.{length};
+ghost use Rattle.item_writer.specs.Bytes.{commandBytes, entriesBytes};
+ghost use Rattle.item_writer.specs.Private.{fitted, spanLength, opLength, contentLength, headLength};
+use log_item::Command;
+use log_item::EntryIndexes;
+use log_item::KeyValue;
+use log_item::LogItem;
+use log_item::LogItemContent;
+use log_item::Op;
+use log_item::Span;
+
+pub fn head_len(item: LogItem) -> usize
+    ensures { λ r. ⌜ r ≡ fitted (headLength item) ⌝ }
+{
+    let content = item.content;
+    plus(
+        codec::var_u64_len(item.raft_group_id),
+        plus(1, content_len(content)),
+    )
+}
+
+fn content_len(content: LogItemContent) -> usize
+    ensures { λ r. ⌜ r ≡ fitted (contentLength content) ⌝ }
+{
+    match content {
+        LogItemContent::EntryIndexes(e) => entries_len(e),
+        LogItemContent::Command(c) => command_len(c),
+        LogItemContent::Kv(kv) => op_len(kv),
+    }
+}
+
+pub fn entries_len(e: EntryIndexes) -> usize
+    ensures { λ r. ⌜ r ≡ fitted (length (entriesBytes (e .count) (e .«first_index»))) ⌝ }
+{
+    if e.count == 0 {
+        return 1;
+    }
+    plus(
+        codec::var_u64_len(e.count as u64),
+        codec::var_u64_len(e.first_index),
+    )
+}
+
+pub fn command_len(c: Command) -> usize
+    ensures { λ r. ⌜ r ≡ fitted (length (commandBytes c)) ⌝ }
+{
+    match c {
+        Command::Clean => 1,
+        Command::Compact { index } => plus(1, codec::var_u64_len(index)),
+    }
+}
+
+pub fn op_len(kv: KeyValue) -> usize
+    ensures { λ r. ⌜ r ≡ fitted (opLength (kv .key) (kv .op)) ⌝ }
+{
+    let key = kv.key;
+    let op = kv.op;
+    let len = plus(1, span_len(key));
+    match op {
+        Op::Put { value } => plus(len, span_len(value)),
+        Op::Del => len,
+    }
+}
+
+fn span_len(span: Span) -> usize
+    ensures { λ r. ⌜ r ≡ fitted (spanLength span) ⌝ }
+{
+    plus(codec::var_u64_len(span.len as u64), span.len)
+}
+
+// a + b, or the largest number where that is more.
+pub fn plus(a: usize, b: usize) -> usize
+    ensures { λ r. ⌜ r ≡ fitted (a + b) ⌝ }
+{
+    if usize::MAX - a < b {
+        return usize::MAX;
+    }
+    a + b
+}
+
+pub fn least(a: usize, b: usize) -> usize
+    ensures { λ r. ⌜ r ≡ min a b ⌝ }
+{
+    if a < b { a } else { b }
+}
