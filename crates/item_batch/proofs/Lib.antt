@@ -1,14 +1,7 @@
-pub mod Accepts
-pub mod Listing
-pub mod One
-pub mod Bodies
-pub mod Theorems
 pub mod Sealing
 pub mod Checking
 pub mod Rows
 pub mod Coming
 pub mod Filling
 pub mod Tables
-pub mod WrittenBytes
-pub mod Written
 pub mod Determined

@@ -4,5 +4,4 @@ pub mod Refusals
 pub mod Pieces
 pub mod Tails
 pub mod Items
-pub mod Written
 pub mod Determined

@@ -4,5 +4,4 @@ pub mod Rest
 pub mod Measuring
 pub mod Writing
 pub mod Bodies
-pub mod Written
 pub mod Determined

@@ -22,7 +22,7 @@ use Rattle.log_item.specs.Got.{got}
 use Rattle.log_item.specs.declared.LogItem.{LogItem}
 use Rattle.list_writer.specs.Bytes.{itemsBytes, listBytes, footed, bodyBytes}
 use Rattle.item_batch.specs.Seal.{sealCheck}
-use Rattle.item_batch.proofs.Bodies.{sealed-of}
+use Rattle.one_reading.proofs.Bodies.{sealed-of}
 use Rattle.log_batch.specs.Header.{frame, header}
 use Rattle.log_batch.specs.Batch.{blockOf, bodyOf, blockCheck, contentLength, sealedBatch}
 use Rattle.log_batch.specs.Written.{blockBytes, headerBytes, frontBytes, framed, frameOf}

@@ -1,8 +1,8 @@
 pub mod Frames
 pub mod Planning
 pub mod Framing
-pub mod Again
 pub mod Views
 pub mod Marks
 pub mod Determined
+pub mod Again
 pub mod Theorems

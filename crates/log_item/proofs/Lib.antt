@@ -1,11 +1,4 @@
 pub mod Holds
-pub mod Place
-pub mod Numbers
-pub mod Rows
-pub mod Complete
-pub mod Sound
-pub mod Forms
-pub mod Agree
 pub mod Fields
 pub mod Parts
 pub mod Passing

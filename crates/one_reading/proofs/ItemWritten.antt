@@ -29,18 +29,18 @@ use Rattle.log_item.specs.declared.LogItemContent.{LogItemContent}
 use Rattle.log_item.specs.declared.LogItemContent.the-variants as contents
 use Rattle.log_item.specs.declared.LogItem.{LogItem}
 use Rattle.log_item.specs.declared.EntryIndex.{EntryIndex}
-use Rattle.log_item.proofs.Place.{At, cut}
-use Rattle.log_item.proofs.Forms.{form-any}
-use Rattle.log_item.proofs.Complete.{complete-item}
+use Rattle.one_reading.proofs.Place.{At, cut}
+use Rattle.one_reading.proofs.Forms.{form-any}
+use Rattle.one_reading.proofs.Complete.{complete-item}
 use Rattle.item_writer.specs.Bytes.{spanBytes, commandBytes, opBytes, entriesBytes, contentBytes, headBytes, tailsBytes}
 use Rattle.log_item.specs.Prefix.{inside}
 use Rattle.item_writer.specs.Refusing.{opInside, contentInside, contentRefusal}
 use Rattle.refusal.specs.First.{firstOf}
 use Rattle.item_writer.specs.Answers.{sumOf, rowLengths, itemBytes, itemRefusal}
 use Rattle.item_writer.specs.Relocated.{spanAt, keyAt, stated, contentAt, itemAt, rowsFrom, itemRows, spansOf, numbersOf, Small, none, one, Writable}
 use Rattle.item_writer.proofs.Lengths.{and-both, part-length, span-length}
 use Rattle.item_writer.proofs.Refusals.{untaken, taken, content-inside, content-allowed}
 use Rattle.item_writer.proofs.Tails.{tailsOf, sum-rises}
 
 -- ---- pieces
 

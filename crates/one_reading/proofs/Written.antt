@@ -29,35 +29,35 @@ use Rattle.log_item.specs.declared.LogItemContent.the-variants as contents
 use Rattle.log_item.specs.declared.LogItem.{LogItem}
 use Rattle.log_item.specs.declared.EntryIndex.{EntryIndex}
 use Rattle.log_item.proofs.Holds.{of-got}
-use Rattle.log_item.proofs.Numbers.{in-any}
-use Rattle.log_item.proofs.Place.{At, cut, at-front}
-use Rattle.log_item.proofs.Rows.{each-append, item-length}
-use Rattle.log_item.proofs.Sound.{sound-item}
+use Rattle.one_reading.proofs.Numbers.{in-any}
+use Rattle.one_reading.proofs.Place.{At, cut, at-front}
+use Rattle.one_reading.proofs.ItemRows.{each-append, item-length}
+use Rattle.one_reading.proofs.Sound.{sound-item}
 use Rattle.item_writer.specs.Refusing.{contentRefusal}
 use Rattle.item_writer.specs.Answers.{sumOf, rowLengths, itemBytes}
 use Rattle.item_writer.specs.Relocated as relocated
 use Rattle.item_writer.specs.Relocated.{stated, contentAt, itemAt, itemRows, numbersOf, Small, Writable}
 use Rattle.item_writer.proofs.Refusals.{content-inside, content-allowed}
-use Rattle.item_writer.proofs.Written.{written-item, read-item-at, spans-kept}
+use Rattle.one_reading.proofs.ItemWritten.{written-item, read-item-at, spans-kept}
 use Rattle.list_writer.specs.declared.Encoded.{Encoded}
 use Rattle.log_item.specs.Blank.{blankItem}
 use Rattle.list_writer.specs.Bytes.{firstRows, itemsOf, itemsBytes, listBytes, footed, bodyBytes}
 use Rattle.list_writer.specs.Refusing.{fine, itemsVerdict, listVerdict}
 use Rattle.list_writer.proofs.Heads.{cond-fine}
-use Rattle.list_writer.proofs.Written.{items-split, items-fine, Encodes, writes, leaves, encodes}
+use Rattle.one_reading.proofs.ListWritten.{items-split, items-fine, Encodes, writes, leaves, encodes}
 use Rattle.item_batch.specs.declared.LogItemBatch.{LogItemBatch}
 use Rattle.item_batch.specs.Limits.{Within}
 use Rattle.item_batch.specs.Spelling.{Items, end, then, Spells, list}
 use Rattle.item_batch.specs.Reading.{accepted, rejected}
 use Rattle.item_batch.specs.Seal.{sealCheck}
 use Rattle.item_batch.specs.Body.{readBody}
 use Rattle.item_batch.specs.Writing as table
 use Rattle.item_batch.specs.Writing.{listed, BodyWritten, itemsAt, rowsAt, bodyItems, bodyRows, keysAndContents, AllSmall, none, one}
-use Rattle.item_batch.proofs.Listing.{spells-as, spells-some}
-use Rattle.item_batch.proofs.Bodies.{part-of, footer-of, complete-body}
+use Rattle.one_reading.proofs.Listing.{spells-as, spells-some}
+use Rattle.one_reading.proofs.Bodies.{part-of, footer-of, complete-body}
 use Rattle.item_batch.proofs.Sealing.{body-refused}
-use Rattle.item_batch.proofs.WrittenBytes as octets
-use Rattle.item_batch.proofs.WrittenBytes.{AllBytes, joined, bytes-all, shortest-bytes, item-bytes}
+use Rattle.one_reading.proofs.WrittenBytes as octets
+use Rattle.one_reading.proofs.WrittenBytes.{AllBytes, joined, bytes-all, shortest-bytes, item-bytes}
 
 -- ---- an item that is not refused
 

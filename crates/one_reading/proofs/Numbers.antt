@@ -14,14 +14,14 @@ use Rattle.codec.specs.Shortest.{shortest}
 use Rattle.codec.specs.Spelling.{Spells}
 use Rattle.codec.proofs.Spelled.{groups-pos}
 use Rattle.codec.proofs.Theorems.{read-iff-stands, shortest-spells, none-as-short, spells-fits}
 use Rattle.log_item.specs.declared.Form.{Form}
 use Rattle.log_item.specs.declared.Form.the-variants.{Any, Plain}
 use Rattle.log_item.specs.Got.{got}
 use Rattle.log_item.specs.Spelling.{NumberIn}
 use Rattle.log_item.specs.Reading.{numberGot, number}
 use Rattle.log_item.proofs.Holds.{Holds, holds, refuses, after, equal}
 use Rattle.codec.specs.Byte.{Bytes}
-use Rattle.log_item.proofs.Place.{At, Found, bytes-at}
+use Rattle.one_reading.proofs.Place.{At, Found, bytes-at}
 
 -- What a form asks of the list that is read: where the shortest spelling alone is taken, the list is of bytes.
 abbrev pub Asks : Form → List ℕ → Type 0

@@ -17,18 +17,18 @@ use Rattle.log_item.specs.Rows.{Joined}
 use Rattle.log_item.specs.Rows as lie
 use Rattle.log_item.specs.Spelling.{NumberIn}
 use Rattle.log_item.proofs.Holds.{Holds, holds, after, at-most}
-use Rattle.log_item.proofs.Place.{At, Found, join, cut, nothing, at-front}
-use Rattle.log_item.proofs.Numbers.{Asks, complete-number, sound-number, number-some, in-any}
-use Rattle.log_item.proofs.Rows.{each-append, each-split, item-length, item-joined, item-consecutive, joined-append}
-use Rattle.log_item.proofs.Complete.{complete-item}
-use Rattle.log_item.proofs.Sound.{sound-item}
-use Rattle.log_item.proofs.Forms.{item-as}
+use Rattle.one_reading.proofs.Place.{At, Found, join, cut, nothing, at-front}
+use Rattle.one_reading.proofs.Numbers.{Asks, complete-number, sound-number, number-some, in-any}
+use Rattle.one_reading.proofs.ItemRows.{each-append, each-split, item-length, item-joined, item-consecutive, joined-append}
+use Rattle.one_reading.proofs.Complete.{complete-item}
+use Rattle.one_reading.proofs.Sound.{sound-item}
+use Rattle.one_reading.proofs.Forms.{item-as}
 use Rattle.item_batch.specs.Limits.{Within}
 use Rattle.item_batch.specs.Spelling.{Items, end, then, Spells, list, Begins}
 use Rattle.item_batch.specs.Reading.{accepted, items, count, readItems}
 use Rattle.item_batch.specs.Rows.{Indexed}
 use Rattle.item_batch.specs.Rows as rowed
-use Rattle.item_batch.proofs.Accepts.{Accepts, accepts, in-front, counting, weaken, one-more}
+use Rattle.one_reading.proofs.Accepts.{Accepts, accepts, in-front, counting, weaken, one-more}
 
 module _ (form : Form) {s : List ℕ} where
   -- Items that are spelled, within the limits and with e entries before them, are read.

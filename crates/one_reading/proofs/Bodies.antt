@@ -15,16 +15,16 @@ use Rattle.log_item.specs.declared.Form.the-variants.{Any, Plain}
 use Rattle.log_item.specs.declared.LogItem.{LogItem}
 use Rattle.log_item.specs.declared.EntryIndex.{EntryIndex}
 use Rattle.codec.specs.Byte.{Bytes}
-use Rattle.log_item.proofs.Place.{bytes-at, at-front}
+use Rattle.one_reading.proofs.Place.{bytes-at, at-front}
 use Rattle.item_batch.specs.declared.PlainForm.the-variants as plain
 use Rattle.item_batch.specs.Spelling.{Begins}
 use Rattle.item_batch.specs.Reading.{Answer, accepted, rejected, readItems}
 use Rattle.item_batch.specs.Seal.{sealedPart, footer, sealCheck}
 use Rattle.item_batch.specs.Body.{unless, readBody, Acceptable}
 use Rattle.item_batch.specs.Plain.{InPlainForm}
 use Rattle.item_batch.specs.Answers.{plainOf, plainBody}
-use Rattle.item_batch.proofs.Accepts.{of-accepted}
-use Rattle.item_batch.proofs.Listing.{complete, sound, spells-some, begins-any}
+use Rattle.one_reading.proofs.Accepts.{of-accepted}
+use Rattle.one_reading.proofs.Listing.{complete, sound, spells-some, begins-any}
 
 -- The seal of bytes is right: there are more than four, and the last four are the checksum of the others XORed with the signature.
 pub record Sealed (b : List ℕ) (signature : ℕ) : Type 0 where

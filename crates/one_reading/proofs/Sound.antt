@@ -6,21 +6,21 @@ use mathlib.Core.List.{List, [], _∷_, _++_, append-assoc}
 use native.Mathlib.Omega.{arith}
 use lib.ListN.{length, take, drop, length-take, length-drop, take-append-drop}
 use lib.Seq.{drop-drop}
 use Rattle.log_item.specs.declared.Form.{Form}
 use Rattle.log_item.specs.declared.LogItemContent.{LogItemContent}
 use Rattle.log_item.specs.declared.LogItemContent.the-variants as content
 use Rattle.log_item.specs.declared.LogItem.{LogItem}
 use Rattle.log_item.specs.declared.EntryIndex.{EntryIndex}
 use Rattle.log_item.specs.Entries.{entriesOf, typeOf}
 use Rattle.log_item.specs.Limits.{Each, one, RowFits}
 use Rattle.log_item.specs.Limits as limits
 use Rattle.log_item.specs.Spelling.{NumberIn, Spanned, spanned, Contents, no-entries, entries, clean, compact, put, delete, Tails, no-more, next, OneItem, item}
 use Rattle.log_item.specs.Reading.{Read, span, command, putAt, keyValue, firstIndex, entryIndexes, head, tail, tails, oneItem}
 use Rattle.log_item.specs.Reading as reading
 use Rattle.log_item.proofs.Holds.{Holds, holds, refuses, after, at-most, is}
-use Rattle.log_item.proofs.Place.{At, Found, join, nothing, sound-byte}
-use Rattle.log_item.proofs.Numbers.{Asks, sound-number}
-use Rattle.log_item.proofs.Rows.{tails-length}
+use Rattle.one_reading.proofs.Place.{At, Found, join, nothing, sound-byte}
+use Rattle.one_reading.proofs.Numbers.{Asks, sound-number}
+use Rattle.one_reading.proofs.ItemRows.{tails-length}
 
 -- What is spelled where an item is read, with e entries and the total t before it: the item, its rows within the limits, and the total after it.
 pub record ItemSpelled (form : Form) (e t p : ℕ) (r : Read) (x : List ℕ) : Type 0 where

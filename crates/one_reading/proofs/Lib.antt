@@ -1,0 +1,15 @@
+pub mod Place
+pub mod Numbers
+pub mod ItemRows
+pub mod Complete
+pub mod Sound
+pub mod Forms
+pub mod Agree
+pub mod ItemWritten
+pub mod ListWritten
+pub mod Accepts
+pub mod Listing
+pub mod One
+pub mod Bodies
+pub mod WrittenBytes
+pub mod Written
