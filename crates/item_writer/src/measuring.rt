@@ -12,7 +12,7 @@ use log_item::LogItemContent;
 use log_item::Op;
 use log_item::Span;
 
-pub fn head_len(item: LogItem) -> usize
+pub(crate) fn head_len(item: LogItem) -> usize
     ensures { λ r. ⌜ r ≡ fitted (headLength item) ⌝ }
 {
     let content = item.content;
@@ -32,7 +32,7 @@ fn content_len(content: LogItemContent) -> usize
     }
 }
 
-pub fn entries_len(e: EntryIndexes) -> usize
+pub(crate) fn entries_len(e: EntryIndexes) -> usize
     ensures { λ r. ⌜ r ≡ fitted (length (entriesBytes (e .count) (e .«first_index»))) ⌝ }
 {
     if e.count == 0 {
@@ -44,7 +44,7 @@ pub fn entries_len(e: EntryIndexes) -> usize
     )
 }
 
-pub fn command_len(c: Command) -> usize
+pub(crate) fn command_len(c: Command) -> usize
     ensures { λ r. ⌜ r ≡ fitted (length (commandBytes c)) ⌝ }
 {
     match c {
@@ -53,7 +53,7 @@ pub fn command_len(c: Command) -> usize
     }
 }
 
-pub fn op_len(kv: KeyValue) -> usize
+pub(crate) fn op_len(kv: KeyValue) -> usize
     ensures { λ r. ⌜ r ≡ fitted (opLength (kv .key) (kv .op)) ⌝ }
 {
     let key = kv.key;
@@ -72,7 +72,7 @@ fn span_len(span: Span) -> usize
 }
 
 // a + b, or the largest number where that is more.
-pub fn plus(a: usize, b: usize) -> usize
+pub(crate) fn plus(a: usize, b: usize) -> usize
     ensures { λ r. ⌜ r ≡ fitted (a + b) ⌝ }
 {
     if usize::MAX - a < b {
@@ -81,7 +81,7 @@ pub fn plus(a: usize, b: usize) -> usize
     a + b
 }
 
-pub fn least(a: usize, b: usize) -> usize
+pub(crate) fn least(a: usize, b: usize) -> usize
     ensures { λ r. ⌜ r ≡ min a b ⌝ }
 {
     if a < b { a } else { b }

@@ -12,7 +12,7 @@ use log_item::Op;
 use log_item::Span;
 
 // The first refusal of a content but 16, or 0.
-pub fn content_refusal(
+pub(crate) fn content_refusal(
     content: LogItemContent,
     store: &[u8],
     checked: bool,
@@ -80,7 +80,7 @@ fn is_forbidden(key: Span, store: &[u8], checked: bool) -> bool
 }
 
 // Whether the spans of a content lie in the store.
-pub fn content_inside(content: LogItemContent, store: &[u8]) -> bool
+pub(crate) fn content_inside(content: LogItemContent, store: &[u8]) -> bool
     ensures { λ r. ⌜ r ≡ contentInside (now (store .entry)) content ⌝ }
 {
     match content {
@@ -90,7 +90,7 @@ pub fn content_inside(content: LogItemContent, store: &[u8]) -> bool
     }
 }
 
-pub fn op_inside(kv: KeyValue, store: &[u8]) -> bool
+pub(crate) fn op_inside(kv: KeyValue, store: &[u8]) -> bool
     ensures { λ r. ⌜ r ≡ opInside (now (store .entry)) (kv .key) (kv .op) ⌝ }
 {
     let key = kv.key;
@@ -105,7 +105,7 @@ pub fn op_inside(kv: KeyValue, store: &[u8]) -> bool
 }
 
 // Whether `len` bytes from a place on lie among `all`.
-pub fn has_room(all: usize, at: usize, len: usize) -> bool
+pub(crate) fn has_room(all: usize, at: usize, len: usize) -> bool
     ensures { λ r. ⌜ r ≡ leb (at + len) all ⌝ }
 {
     if all < at {

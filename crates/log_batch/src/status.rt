@@ -8,7 +8,7 @@ use log_item::Span;
 use refusal::Refusal;
 
 // What a put marks, its key lying in the store.
-pub fn put_status(group: u64, key: Span, value: Span, store: &[u8]) -> StatusRead
+pub(crate) fn put_status(group: u64, key: Span, value: Span, store: &[u8]) -> StatusRead
     ensures { λ r. ⌜ r ≡ markOf group key (Op.Put value) (now (store .entry)) ⌝ }
 {
     if !log_item::lies_in(store, value) {
@@ -52,7 +52,7 @@ fn status_byte(group: u64, b: u8) -> StatusRead
     })
 }
 
-pub fn outside() -> StatusRead
+pub(crate) fn outside() -> StatusRead
     ensures { λ r. ⌜ r ≡ StatusRead.Refused (record { number = 13; item = 0 }) ⌝ }
 {
     StatusRead::Refused(Refusal {

@@ -10,7 +10,7 @@ use crate::TailRead;
 use crate::piece::read_number;
 
 // The first index of `count` entries, where there are any.
-pub fn read_first_index(buf: &[u8], at: usize, count: usize, form: Form) -> EntryIndexesRead
+pub(crate) fn read_first_index(buf: &[u8], at: usize, count: usize, form: Form) -> EntryIndexesRead
     ensures { λ r. ⌜ entriesGot r ≡ firstIndex form (now (buf .entry)) count at ⌝ }
 {
     if count == 0 {
@@ -40,7 +40,7 @@ pub fn read_first_index(buf: &[u8], at: usize, count: usize, form: Form) -> Entr
 }
 
 // Goes over `count` tails: the total and the place after them.
-pub fn skip_tails(buf: &[u8], at: usize, count: usize, before: u32, form: Form) -> TailRead
+pub(crate) fn skip_tails(buf: &[u8], at: usize, count: usize, before: u32, form: Form) -> TailRead
     ensures { λ r. ⌜ tailGot r ≡ passTails form (now (buf .entry)) count before at ⌝ }
 {
     let mut left = count;

@@ -12,7 +12,7 @@ use codec::NumberRead;
 const NOT_SHORTEST: u32 = 8;
 
 // A length and as many bytes: where these stand.
-pub fn read_span(buf: &[u8], at: usize, form: Form) -> SpanRead
+pub(crate) fn read_span(buf: &[u8], at: usize, form: Form) -> SpanRead
     ensures { λ r. ⌜ spanGot r ≡ span form (now (buf .entry)) at ⌝ }
 {
     match read_number(buf, at, form) {
@@ -48,7 +48,7 @@ pub fn read_number(buf: &[u8], at: usize, form: Form) -> Field
     }
 }
 
-pub fn read_byte(buf: &[u8], at: usize) -> Field
+pub(crate) fn read_byte(buf: &[u8], at: usize) -> Field
     ensures { λ r. ⌜ fieldGot r ≡ byte (now (buf .entry)) at ⌝ }
 {
     if at < buf.len() {
