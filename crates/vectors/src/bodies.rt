@@ -13,7 +13,8 @@ pub(crate) fn case(line: &[u8]) {
     let signature = input::short(line, 2);
     let count = input::bytes(line, 3, &mut buf);
     let n = seal(line, &mut buf, count, signature);
-    tables::line(line, read(line, text::front(&buf, n), signature));
+    let table = read(input::kind(line), text::front(&buf, n), signature);
+    tables::line(input::word(line, 0), input::word(line, 1), table);
 }
 
 // Puts the footer behind the first n bytes where the kind is items, and answers the length then.
@@ -28,8 +29,9 @@ fn seal(line: &[u8], out: &mut [u8], n: usize, signature: u32) -> usize {
     }
 }
 
-fn read(line: &[u8], bytes: &[u8], signature: u32) -> LogItemBatch {
-    if input::kind(line) == b'w' {
+// The table of a whole batch where the letter is that of `whole`, else of a body.
+pub(crate) fn read(letter: u8, bytes: &[u8], signature: u32) -> LogItemBatch {
+    if letter == b'w' {
         LogBatch::decode(bytes, signature)
     } else {
         LogItemBatch::decode(bytes, signature)

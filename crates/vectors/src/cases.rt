@@ -13,6 +13,10 @@
 //     whole NAME SIGNATURE BYTES                                  a whole batch
 //     view NAME QUEUE LENGTH PLACE ENTRYLENGTH APPEND REWRITE     queue 0 is append, and both blocks are lent
 //     status NAME LENT BYTES                                      an item, and how many of its bytes are lent
+//     encode NAME WRITER KEYS SIGNATURE OTHER ROOM CONTENT BODY EDITS
+//                                                                 the table of a body without footer, edited (edits.rt), then written by
+//                                                                 the writer of a body or a whole batch, keys checked or unchecked, into
+//                                                                 so much room, and read back under the other signature
 use crate::bodies;
 use crate::headers;
 use crate::input;
@@ -20,6 +24,7 @@ use crate::numbers;
 use crate::statuses;
 use crate::sums;
 use crate::views;
+use crate::writes;
 use libc::STDIN_FILENO;
 
 pub(crate) fn run() {
@@ -52,6 +57,7 @@ fn line(line: &[u8]) {
         b'p' => bodies::plain(line),
         b'v' => views::case(line),
         b's' => statuses::case(line),
+        b'e' => writes::case(line),
         _ => {}
     }
 }

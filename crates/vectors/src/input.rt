@@ -45,6 +45,11 @@ pub(crate) fn kind(line: &[u8]) -> u8 {
     if 0 < line.len() { line[0] } else { b' ' }
 }
 
+// The first letter of a word, likewise.
+pub(crate) fn letter(line: &[u8], k: usize) -> u8 {
+    kind(word(line, k))
+}
+
 // Begins the line of an answer with the kind and the name of the case.
 pub(crate) fn start(line: &[u8]) {
     text::start(word(line, 0));
@@ -63,8 +68,13 @@ pub(crate) fn number(line: &[u8], k: usize) -> u64 {
 }
 
 // The low 32 bits of a number.
+pub(crate) fn low(n: u64) -> u32 {
+    (n % 4_294_967_296) as u32
+}
+
+// The same of the number that a word spells.
 pub(crate) fn short(line: &[u8], k: usize) -> u32 {
-    (number(line, k) % 4_294_967_296) as u32
+    low(number(line, k))
 }
 
 // Puts the bytes of a word at the start of out, as far as there is room, and answers how many.

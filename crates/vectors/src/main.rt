@@ -2,6 +2,7 @@
 // vectors, the real crate and document 01 give.
 mod bodies;
 mod cases;
+mod edits;
 mod headers;
 mod input;
 mod numbers;
@@ -10,6 +11,7 @@ mod sums;
 mod tables;
 mod text;
 mod views;
+mod writes;
 
 fn main() {
     cases::run();

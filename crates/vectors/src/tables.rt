@@ -1,6 +1,5 @@
 // The line of a table: its counts, the entry total, the place after the last item, the spans of body and block, items and entries; or the
 // refusal.
-use crate::input;
 use crate::text;
 use item_batch::LogItemBatch;
 use log_item::Command;
@@ -12,15 +11,16 @@ use log_item::LogItemContent;
 use log_item::Op;
 use log_item::Span;
 
-pub(crate) fn line(line: &[u8], table: LogItemBatch) {
+pub(crate) fn line(start: &[u8], name: &[u8], table: LogItemBatch) {
     let why = table.refusal;
     if why.number == refusal::NONE {
-        input::start(line);
+        text::start(start);
+        text::word(name);
         counts(table);
         rows(table);
     } else {
         text::start(b"refused");
-        text::word(input::word(line, 1));
+        text::word(name);
         text::refusal(why);
     }
     text::end();

@@ -31,6 +31,15 @@ pub(crate) fn hex(bytes: &[u8]) {
     }
 }
 
+// The same, with `-` for none.
+pub(crate) fn bytes(bytes: &[u8]) {
+    if bytes.len() == 0 {
+        word(b"-");
+    } else {
+        hex(bytes);
+    }
+}
+
 fn one_byte(b: u8) {
     io::print_hex(STDOUT_FILENO, b as u64, 2);
 }

@@ -1,0 +1,192 @@
+"""The lines of the program vectors: what each kind of case prints, by the model. crates/vectors/src/cases.rt has the kinds."""
+import struct
+
+from model import BLANK_ROW, Reader, Refused, Table, crc, little, read_batch, read_body, read_header, read_item, read_items, read_number
+from model import spell, status, view, write_batch, write_body
+
+
+def data(word):
+    return b"" if word == "-" else bytes.fromhex(word)
+
+
+def shown(count):
+    """Which rows a line shows: all where they are few, else the last alone."""
+    return range(count) if count <= 8 else range(count - 1, count)
+
+
+def item_words(item):
+    out = ["|", item[0], item[1]]
+    for x in item[2:]:
+        out += x if isinstance(x, tuple) else [x]
+    return out
+
+
+def table_line(start, name, read):
+    try:
+        t = read()
+    except Refused as why:
+        return line("refused", name, why.number, why.item)
+    words = [start, name, t.item_count, t.entry_count, t.total, t.next, *t.body, *t.block]
+    for i in shown(t.item_count):
+        words += item_words(t.items[i])
+    for k in shown(t.entry_count):
+        words += [":", *t.entries[k]]
+    return line(*words)
+
+
+def line(*words):
+    return " ".join(str(w) for w in words)
+
+
+def read_line(b):
+    got = read_number(b, 0)
+    return line("read", b.hex(), *([got] if isinstance(got, str) else got))
+
+
+def do_crc(name, b):
+    return [line("crc", name, "%08x" % crc(data(b)))]
+
+
+def do_number(n):
+    n = int(n, 16)
+    b = spell(n)
+    zeros = 64 - (n | 1).bit_length()
+    assert len(b) == (70 - zeros) // 7
+    out = [line("number", n, len(b), b.hex()), read_line(b)]
+    while len(b) < 10:
+        b = b[:-1] + bytes([b[-1] + 128, 0])
+        out.append(read_line(b))
+    return out
+
+
+def do_read(b):
+    return [read_line(data(b))]
+
+
+def do_big(n):
+    n = int(n, 16)
+    return [line("u64", struct.pack(">Q", n).hex(), n, 8, "eof")]
+
+
+def do_little(n):
+    n = int(n, 16)
+    return [line("u32", little(n).hex(), n, 4, "eof")]
+
+
+def do_header(name, b):
+    try:
+        return [line("header", name, "read", *read_header(data(b)))]
+    except Refused as why:
+        return [line("header", name, why.number)]
+
+
+def footed(b, signature):
+    return b + little(crc(b) ^ signature)
+
+
+def do_items(name, signature, b):
+    s = int(signature, 16)
+    return [table_line("items", name, lambda: read_body(footed(data(b), s), s))]
+
+
+def do_footed(name, signature, b):
+    return [table_line("footed", name, lambda: read_body(data(b), int(signature, 16)))]
+
+
+def do_plain(name, b):
+    try:
+        return [line("plain", name, "yes" if read_body(data(b), 0).plain else "no")]
+    except Refused as why:
+        return [line("plain", name, why.number, why.item)]
+
+
+def do_whole(name, signature, b):
+    return [table_line("whole", name, lambda: read_batch(data(b), int(signature, 16)))]
+
+
+def do_view(name, queue, length, place, n, append, rewrite):
+    numbers = [int(x, 16) for x in (queue, length, place, n)]
+    try:
+        got = view(*numbers, data(append), data(rewrite))
+    except Refused as why:
+        return [line("view", name, why.number, 0)]
+    return [line("view", name, 0, len(got), *([got.hex()] if got else []))]
+
+
+def do_status(name, lent, b):
+    b = data(b)
+    try:
+        got = status(read_item(Reader(b), Table()), b[:int(lent, 16)])
+    except Refused as why:
+        return [line("status", name, why.number, 0)]
+    return [line("status", name, *(got or ["no-mark"]))]
+
+
+def edit(t, what, row, value):
+    """A table with one thing changed, as crates/vectors/src/edits.rt lists them."""
+    n = int(value, 16)
+    k = 0 if row == "-" else int(row, 16)
+    if what == "items":
+        t.item_count = n
+    elif what == "rows":
+        t.entry_count = n
+    elif what == "length":
+        t.entries += [BLANK_ROW] * (k + 1 - len(t.entries))
+        t.entries[k] = (*t.entries[k][:2], n)
+    elif what == "unread":
+        pass  # what no writer looks at
+    else:
+        item = list(t.items[k])
+        place, field = {
+            "count": (2, None), "first": (3, None), "place": (2, 0), "key": (2, 1), "start": (3, 0), "value": (3, 1),
+        }[what]
+        if field is None:
+            item[place] = n
+        else:
+            item[place] = (n, item[place][1]) if field == 0 else (item[place][0], n)
+        t.items[k] = tuple(item)
+
+
+def encode_table(store, edits):
+    """A refused reading hands back a table with no rows."""
+    try:
+        t = read_items(store)
+    except Refused:
+        t = Table()
+    for k in range(0, len(edits), 3):
+        edit(t, *edits[k:k + 3])
+    return t
+
+
+def encode(writer, keys, signature, other, room, content, body, *edits):
+    """The bytes written."""
+    assert writer in ("body", "whole") and keys in ("checked", "unchecked") and len(edits) in (0, 3, 6, 9)
+    store, checked, signature = data(body), keys == "checked", int(signature, 16)
+    t = encode_table(store, edits)
+    if writer == "whole":
+        b = write_batch(t, store, data(content), checked, signature)
+    else:
+        b, _ = write_body(t, store, checked, signature)
+    if len(b) > int(room, 16):
+        raise Refused(21)
+    return b
+
+
+def do_encode(name, *words):
+    writer, other, room = words[0], int(words[3], 16), int(words[4], 16)
+    before = bytes([0xAA]) * room
+    try:
+        b = encode(*words)
+    except Refused as why:
+        return [line("encode", name, why.number, why.item, 0, "-", before.hex() or "-")]
+    out = [line("encode", name, 0, 0, len(b), b.hex() or "-", before[len(b):].hex() or "-")]
+    if b:
+        read = read_batch if writer == "whole" else read_body
+        out.append(table_line("back", name, lambda: read(b, other)))
+    return out
+
+
+DO = {
+    "crc": do_crc, "number": do_number, "read": do_read, "big": do_big, "little": do_little, "header": do_header, "items": do_items,
+    "footed": do_footed, "plain": do_plain, "whole": do_whole, "view": do_view, "status": do_status, "encode": do_encode,
+}
