@@ -1,0 +1,99 @@
+-- What a step over an item comes to: a law for each way out of the code.
+-- Assumes nothing.
+use Prim.Native.Nat.{ℕ, zero, suc, _+_, _-_, _≤_, _<_}
+use mathlib.Core.Path.{_≡_, refl, sym, ap, _∙_}
+use mathlib.Core.List.{List}
+use native.Mathlib.Omega.{arith}
+use native.Mathlib.Nat.{add-zero}
+use borrow.Author.Tests.{lt-ltb, le-ltb}
+use lib.ListN.{length, take}
+use Rattle.refusal.specs.declared.Refusal.{Refusal}
+use Rattle.log_item.specs.Got.{Got, got, refused, done, bind}
+use Rattle.log_item.specs.Entries.{entriesOf}
+use Rattle.log_item.specs.Reading.{Read, head, tails, oneItem}
+use Rattle.log_item.specs.Answers.{Passed, passItem}
+use Rattle.log_item.specs.declared.Form.the-variants.{Any}
+use Rattle.log_item.specs.declared.LogItem.{LogItem}
+use Rattle.log_item.specs.declared.EntryIndex.{EntryIndex}
+use Rattle.log_item.specs.declared.EntryIndexes.{EntryIndexes}
+use Rattle.item_reader.specs.declared.EntryRows.{EntryRows}
+use Rattle.item_reader.specs.declared.Next.the-variants as next
+use Rattle.item_reader.specs.declared.Step.{Step}
+use Rattle.item_reader.specs.Steps.{rowsFrom, Found, itemAt, stayed, unlessRefused, stepOf}
+
+-- ---- the item at a place
+
+module _ (s : List ℕ) (e t p : ℕ) where
+  pub no-head : {n : ℕ} → head Any s e p ≡ refused n → refused n ≡ itemAt s e t p
+  unfolding itemAt
+  no-head h = rw h
+
+  module _ {x : LogItem} {q : ℕ} (h : head Any s e p ≡ got x q) {d : EntryIndexes} (k : d ≡ entriesOf (x .content)) where
+    -- what is found, where the rows are those of the tails
+    abbrev pub foundBy : Got (List EntryIndex × ℕ) → Got Found
+    foundBy g = bind g (λ r. done (record { item = x; rows = rowsFrom d q t; total = r .1; used = e + length (r .0) }))
+
+    pub by-tails : itemAt s e t p ≡ foundBy (tails Any s (d .count) (d .«first_index») t q)
+    unfolding itemAt
+    by-tails = rw (h, ← k)
+
+    pub no-rows : {w : EntryRows} → w ≡ rowsFrom d q t → d .count ≡ 0 → got (record { item = x; rows = w; total = t; used = e }) q ≡ itemAt s e t p
+    unfolding tails
+    no-rows f z = rw (f, by-tails, z, add-zero e)
+
+    abbrev passedBy : Got (List EntryIndex × ℕ) → Got Passed
+    passedBy g =
+        bind {A = Read} {B = Passed} (bind g (λ r. done (record { item = x; rows = r .0; total = r .1 })))
+        (λ r. done (record { item = r .item; total = r .total; used = e + length (r .rows) }))
+
+    pass-tails : passItem Any s e t p ≡ passedBy (tails Any s (d .count) (d .«first_index») t q)
+    unfolding passItem oneItem
+    pass-tails = rw (h, ← k)
+
+    pub with-rows : {w : EntryRows} → w ≡ rowsFrom d q t → {y : LogItem} {u m z : ℕ} → passItem Any s e t p ≡ got (record { item = y; total = u; used = m }) z
+        → got (record { item = x; rows = w; total = u; used = m }) z ≡ itemAt s e t p
+    with-rows k {y} {u} {m} {z} f = rw k (go (tails Any s (d .count) (d .«first_index») t q) (sym pass-tails ∙ f) ∙ sym by-tails)
+      where
+        go : (g : Got (List EntryIndex × ℕ)) → passedBy g ≡ got (record { item = y; total = u; used = m }) z
+            → got (record { item = x; rows = rowsFrom d q t; total = u; used = m }) z ≡ foundBy g
+        go (got r w) c =
+            let same : _≡_ {A = Passed} (record { item = x; total = r .1; used = e + length (r .0) }) (record { item = y; total = u; used = m }) = cc in
+            let place : z ≡ w = cc in
+            let total : u ≡ r .1 = ap (λ (a : Passed). a .total) (sym same) in
+            let used : m ≡ e + length (r .0) = ap (λ (a : Passed). a .used) (sym same) in
+            rw (place, total, used)
+        go (refused n) c = let o : _≡_ {A = ℕ} 0 1 = cc in absurd (omega arith)
+
+    pub no-tails : {n : ℕ} → passItem Any s e t p ≡ refused n → refused n ≡ itemAt s e t p
+    no-tails {n} f = go (tails Any s (d .count) (d .«first_index») t q) (sym pass-tails ∙ f) ∙ sym by-tails
+      where
+        go : (g : Got (List EntryIndex × ℕ)) → passedBy g ≡ refused n → refused n ≡ foundBy g
+        go (got r w) c = let o : _≡_ {A = ℕ} 0 1 = cc in absurd (omega arith)
+        go (refused m) c = cc
+
+-- ---- the step
+
+other-step : (n : ℕ) (s r : Step) → (n ≡ 0 → ⊥) → r ≡ unlessRefused n s r
+other-step zero s r h = absurd (h refl)
+other-step (suc n) s r h = refl
+
+module _ (body : List ℕ) (at total used item count : ℕ) (refusal : Refusal) where
+  pub step-refused : {s : Step} → (refusal .number ≡ 0 → ⊥) → s ≡ stayed at total used item (next.Refused refusal) → s ≡ stepOf body at total used item count refusal
+  unfolding stepOf
+  step-refused h e = e ∙ other-step (refusal .number) _ _ h
+
+  module _ (none : refusal .number ≡ 0) where
+    pub step-end : {s : Step} → count ≤ item → s ≡ stayed at total used item next.End → s ≡ stepOf body at total used item count refusal
+    unfolding stepOf
+    step-end h e = rw (none, le-ltb _ _ h) e
+
+    module _ (more : item < count) {n : ℕ} (k : n ≡ length body - 4) where
+      pub step-over : {f : Found} {q : ℕ} → itemAt (take n body) used total at ≡ got f q
+          → record { at = q; total = f .total; used = f .used; item = item + 1; answer = next.Item (f .item) (f .rows) } ≡ stepOf body at total used item count refusal
+      unfolding stepOf
+      step-over e = rw (none, lt-ltb _ _ more, ← k, e)
+
+      pub step-broken : {m : ℕ} {s : Step} → itemAt (take n body) used total at ≡ refused m
+          → s ≡ stayed at total used item (next.Refused (record { number = m; item = item })) → s ≡ stepOf body at total used item count refusal
+      unfolding stepOf
+      step-broken e h = rw (none, lt-ltb _ _ more, ← k, e) h

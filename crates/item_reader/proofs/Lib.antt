@@ -1,0 +1,12 @@
+pub mod Walking
+pub mod RawIn
+pub mod Loop
+pub mod Lent
+pub mod RowLaws
+pub mod ItemLaws
+pub mod OpenLaws
+pub mod Opened
+pub mod Refusing
+pub mod Through
+pub mod Theorems
+pub mod Determined

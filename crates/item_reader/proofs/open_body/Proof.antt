@@ -1,0 +1,46 @@
+-- `item_reader::open_body` meets its contract: what the plain reading answers, and the place after the item count.
+-- Assumes nothing.
+use mathlib.Core.Path.{sym, _∙_}
+use lib.Seq.{length-take-le}
+use native.Mathlib.Omega.{arith}
+use Rattle.item_reader.proofs.OpenLaws.{opens, opens-refused}
+use borrow.Author.Needs.{needs}
+use Rattle.item_reader.proofs.open_body.Statement.{statement}
+use Rattle.item_reader.proofs.open_body.Tie as tie
+
+check-requires : tie.Need-check-requires
+check-requires c κs = search needs
+
+enum-known-items : tie.Need-enum-known-items
+enum-known-items c = search needs
+
+before-footer-requires : tie.Need-before-footer-requires
+before-footer-requires c κs = search needs
+
+slice-aggregate-after-count : tie.Need-slice-aggregate-after-count
+slice-aggregate-after-count c = sym (length-take-le _ _ (omega (arith, c .before .before-footer .ensures)))
+
+after-count-requires : tie.Need-after-count-requires
+after-count-requires c κs = search needs
+
+enum-known-why : tie.Need-enum-known-why
+enum-known-why c = search needs
+
+returns : tie.Need-returns
+returns c = opens _ _ (sym (c .before .before .before .before .items .given .1) ∙ c .before .before .before .before .before .before .check .ensures) (c .before .before .before-footer .ensures) (c .after-count .ensures)
+
+returns-2 : tie.Need-returns-2
+returns-2 c = opens-refused _ _ (sym (c .before .why .given .1) ∙ c .before .before .before .check .ensures)
+
+pub open-body-spec : {M : Type 1} → statement M
+open-body-spec =
+    tie.close
+    (tie.spec
+    check-requires
+    enum-known-items
+    before-footer-requires
+    slice-aggregate-after-count
+    after-count-requires
+    enum-known-why
+    returns
+    returns-2)

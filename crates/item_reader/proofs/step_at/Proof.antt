@@ -1,0 +1,68 @@
+-- `item_reader::step_at` meets its contract: the refusal, the end, or the item at the place.
+-- Assumes nothing.
+use mathlib.Core.Path.{sym}
+use lib.Seq.{length-take-le}
+use native.Mathlib.Omega.{arith}
+use Rattle.item_reader.specs.Steps.{foundGot}
+use Rattle.log_item.proofs.Fields.{learnt}
+use Rattle.item_reader.proofs.ItemLaws.{step-refused, step-end, step-over, step-broken}
+use borrow.Author.Needs.{needs}
+use Rattle.item_reader.proofs.step_at.Statement.{statement}
+use Rattle.item_reader.proofs.step_at.Tie as tie
+
+stay-requires : tie.Need-stay-requires
+stay-requires c κs = search needs
+
+returns : tie.Need-returns
+returns c = step-refused _ _ _ _ _ _ _ (c .before .if1 .taken) (c .stay .ensures)
+
+stay-requires-2 : tie.Need-stay-requires-2
+stay-requires-2 c κs = search needs
+
+returns-2 : tie.Need-returns-2
+returns-2 c = step-end _ _ _ _ _ _ _ (c .before .before .if1 .left) (c .before .if2 .taken) (c .stay2 .ensures)
+
+before-footer-requires : tie.Need-before-footer-requires
+before-footer-requires c κs = search needs
+
+slice-aggregate-read-item : tie.Need-slice-aggregate-read-item
+slice-aggregate-read-item c = sym (length-take-le _ _ (omega (arith, c .before .before-footer .ensures)))
+
+read-item-requires : tie.Need-read-item-requires
+read-item-requires c κs = search needs
+
+enum-known-found : tie.Need-enum-known-found
+enum-known-found c = search needs
+
+add-t24 : tie.Need-add-t24
+add-t24 c = search needs
+
+enum-known-number : tie.Need-enum-known-number
+enum-known-number c = search needs
+
+stay-requires-3 : tie.Need-stay-requires-3
+stay-requires-3 c κs = search needs
+
+returns-3 : tie.Need-returns-3
+returns-3 c = step-over _ _ _ _ _ _ _ (c .before .before .before .before .before .before .before .if1 .left) (c .before .before .before .before .before .before .if2 .left) (c .before .before .before .before .before .before-footer .ensures) (learnt foundGot (c .before .before .before .read-item .ensures) (c .before .found .given .1))
+
+returns-4 : tie.Need-returns-4
+returns-4 c = step-broken _ _ _ _ _ _ _ (c .before .before .before .before .before .before .before .before .if1 .left) (c .before .before .before .before .before .before .before .if2 .left) (c .before .before .before .before .before .before .before-footer .ensures) (learnt foundGot (c .before .before .before .before .read-item .ensures) (c .before .before .number .given .1)) (c .stay3 .ensures)
+
+pub step-at-spec : {M : Type 1} → statement M
+step-at-spec =
+    tie.close
+    (tie.spec
+    stay-requires
+    returns
+    stay-requires-2
+    returns-2
+    before-footer-requires
+    slice-aggregate-read-item
+    read-item-requires
+    enum-known-found
+    add-t24
+    enum-known-number
+    stay-requires-3
+    returns-3
+    returns-4)

@@ -1,0 +1,317 @@
+// A reader that steps through one lent body and hands out an item at a time, with no table. It holds the body, the place and the entry
+// total before the next item.
+//
+// Opening does the whole reading; then `next` hands out the same items in the same order and an end, or none and the same refusal. The
+// rows of an item of entries are read in the same way, one at a time, by `next_row`. The borrow checker covers no function over the reader
+// itself, so those are few and thin, and the work is done on the slice and numbers.
+ghost use mathlib.Core.Path.{_≡_};
+ghost use Prim.Native.Nat.{_-_};
+ghost use Rattle.item_batch.specs.Seal.{sealedPart};
+ghost use Rattle.item_reader.specs.Rows.{rowAt};
+ghost use Rattle.item_reader.specs.Steps.{rowsFrom, foundGot, itemAt, stayed, stepOf};
+ghost use Rattle.item_reader.specs.Reader.{afterCount, openingOf, opened, stepFrom, after, nthOf};
+use item_batch::BodyCheck;
+use log_item::EntryIndex;
+use log_item::EntryIndexes;
+use log_item::Field;
+use log_item::Form;
+use log_item::HeadRead;
+use log_item::ItemRead;
+use log_item::LogItem;
+use log_item::TailRead;
+use refusal::Refusal;
+
+// Where the rows of an item stand that are still to be read: the place of the next tail, the total before it, the index of its entry,
+// and how many there are.
+pub struct EntryRows {
+    pub at: usize,
+    pub total: u32,
+    pub index: u64,
+    pub left: usize,
+}
+
+// A row, and the rows after it; or that there is none left; or why its tail is refused.
+pub enum RowRead {
+    Row { row: EntryIndex, rest: EntryRows },
+    End,
+    Refused(u32),
+}
+
+// What a step answers: an item, and where its rows stand; or that there is none left; or the body's refusal.
+pub enum Next {
+    Item { item: LogItem, rows: EntryRows },
+    End,
+    Refused(Refusal),
+}
+
+// A reader of the body that it was opened on.
+pub struct ItemReader<'a> {
+    pub body: &'a [u8],
+    // the place of the next item, and the total and the number of entries before it
+    pub at: usize,
+    pub total: u32,
+    pub used: usize,
+    // the number of the next item, and how many there are
+    pub item: usize,
+    pub count: usize,
+    // why the body is refused
+    pub refusal: Refusal,
+}
+
+// What opening finds out: where the first item stands, how many there are, and the refusal.
+struct Opening {
+    at: usize,
+    count: usize,
+    refusal: Refusal,
+}
+
+// Where a reader stands after a step, and what the step answers.
+struct Step {
+    at: usize,
+    total: u32,
+    used: usize,
+    item: usize,
+    answer: Next,
+}
+
+// An item, where its rows stand, the place after it, and the total and the number of entries after it; or why it is refused.
+enum Stepped {
+    Done {
+        item: LogItem,
+        rows: EntryRows,
+        next: usize,
+        total: u32,
+        used: usize,
+    },
+    Refused(u32),
+}
+
+impl<'a> ItemReader<'a> {
+    // A reader of a body under a signature. It is always handed back: where the body is refused, so is each step.
+    pub fn open(body: &'a [u8], signature: u32) -> ItemReader<'a>
+        ensures { λ r. ⌜ r ≡ opened (body .entry) signature ⌝ }
+    {
+        let o = open_body(body, signature);
+        ItemReader {
+            body,
+            at: o.at,
+            total: 0,
+            used: 0,
+            item: 0,
+            count: o.count,
+            refusal: o.refusal,
+        }
+    }
+
+    // The next item, the end, or the body's refusal; after the end the end again.
+    pub fn next(&mut self) -> Next
+        ensures { λ r. ⌜ (r ≡ stepFrom (now (self .entry)) .answer) × (now (self .exit) ≡ after (now (self .entry))) ⌝ }
+    {
+        let s = step_at(
+            self.body,
+            self.at,
+            self.total,
+            self.used,
+            self.item,
+            self.count,
+            self.refusal,
+        );
+        self.at = s.at;
+        self.total = s.total;
+        self.used = s.used;
+        self.item = s.item;
+        s.answer
+    }
+}
+
+// What call number k of `next`, counted from 0, answers on a reader opened on the body under the signature. It takes no reader, so that
+// whoever calls it needs no walk by hand.
+pub fn nth(body: &[u8], signature: u32, k: usize) -> Next
+    ensures { λ r. ⌜ r ≡ nthOf (opened (body .entry) signature) k ⌝ }
+{
+    let mut reader = ItemReader::open(body, signature);
+    let mut i = 0;
+    while i < k {
+        reader.next();
+        i += 1;
+    }
+    reader.next()
+}
+
+// The next of an item's rows, in the body that the item was read from, footer included: first with the rows that came with the item,
+// then with the rest that comes with each row.
+pub fn next_row(body: &[u8], rows: EntryRows) -> RowRead
+    ensures { λ r. ⌜ r ≡ rowAt (sealedPart (now (body .entry))) rows ⌝ }
+{
+    let left = rows.left;
+    if left == 0 {
+        return RowRead::End;
+    }
+    let total = rows.total;
+    let index = rows.index;
+    let n = before_footer(body.len());
+    match EntryIndexes::decode_tail(&body[..n], rows.at, total, Form::Any) {
+        TailRead::Done { total: after, next } => RowRead::Row {
+            row: EntryIndex {
+                index,
+                entry_offset: total,
+                entry_len: after - total,
+            },
+            rest: EntryRows {
+                at: next,
+                total: after,
+                index: std::num::wrapping_add_u64(index, 1),
+                left: left - 1,
+            },
+        },
+        TailRead::Refused(number) => RowRead::Refused(number),
+    }
+}
+
+// How many of so many bytes stand before the footer.
+fn before_footer(len: usize) -> usize
+    ensures { λ r. ⌜ r ≡ len - 4 ⌝ }
+{
+    if len < 4 { 0 } else { len - 4 }
+}
+
+// The place of the first item of a body, and the number of its items; or why the body is refused.
+fn open_body(body: &[u8], signature: u32) -> Opening
+    ensures { λ r. ⌜ r ≡ openingOf (now (body .entry)) signature ⌝ }
+{
+    match item_batch::check(body, signature) {
+        BodyCheck::Accepted {
+            items,
+            entries: _,
+            total: _,
+            next: _,
+        } => {
+            let n = before_footer(body.len());
+            Opening {
+                at: after_count(&body[..n]),
+                count: items,
+                refusal: Refusal {
+                    number: refusal::NONE,
+                    item: 0,
+                },
+            }
+        }
+        BodyCheck::Refused(why) => Opening {
+            at: 0,
+            count: 0,
+            refusal: why,
+        },
+    }
+}
+
+// The item at a place of a body, its rows and what follows it, where the body is not refused and an item is left.
+fn step_at(
+    body: &[u8],
+    at: usize,
+    total: u32,
+    used: usize,
+    item: usize,
+    count: usize,
+    refusal: Refusal,
+) -> Step
+    ensures { λ r. ⌜ r ≡ stepOf (now (body .entry)) at total used item count refusal ⌝ }
+{
+    if refusal.number != refusal::NONE {
+        return stay(at, total, used, item, Next::Refused(refusal));
+    }
+    if count <= item {
+        return stay(at, total, used, item, Next::End);
+    }
+    let n = before_footer(body.len());
+    match read_item(&body[..n], at, total, used) {
+        Stepped::Done {
+            item: found,
+            rows,
+            next: end,
+            total: after,
+            used: entries,
+        } => Step {
+            at: end,
+            total: after,
+            used: entries,
+            item: item + 1,
+            answer: Next::Item { item: found, rows },
+        },
+        Stepped::Refused(number) => {
+            let why = Refusal { number, item };
+            stay(at, total, used, item, Next::Refused(why))
+        }
+    }
+}
+
+// A step that leaves the reader where it is.
+fn stay(at: usize, total: u32, used: usize, item: usize, answer: Next) -> Step
+    ensures { λ r. ⌜ r ≡ stayed at total used item answer ⌝ }
+{
+    Step {
+        at,
+        total,
+        used,
+        item,
+        answer,
+    }
+}
+
+// The item at a place, with `total` bytes of entries and `used` entries before it in the body.
+fn read_item(buf: &[u8], at: usize, total: u32, used: usize) -> Stepped
+    ensures { λ r. ⌜ foundGot r ≡ itemAt (now (buf .entry)) used total at ⌝ }
+{
+    match LogItem::decode_head(buf, at, used, Form::Any) {
+        HeadRead::Done { item, next: tails } => {
+            let entries = item.entries();
+            let rows = rows_of(entries, tails, total);
+            if entries.count == 0 {
+                return Stepped::Done {
+                    item,
+                    rows,
+                    next: tails,
+                    total,
+                    used,
+                };
+            }
+            match LogItem::decode(buf, at, total, used) {
+                ItemRead::Done {
+                    item: _,
+                    next,
+                    total: after,
+                    used: all,
+                } => Stepped::Done {
+                    item,
+                    rows,
+                    next,
+                    total: after,
+                    used: all,
+                },
+                ItemRead::Refused(number) => Stepped::Refused(number),
+            }
+        }
+        HeadRead::Refused(number) => Stepped::Refused(number),
+    }
+}
+
+// The rows of an item, whose tails begin at a place, with the total before them.
+fn rows_of(entries: EntryIndexes, at: usize, total: u32) -> EntryRows
+    ensures { λ r. ⌜ r ≡ rowsFrom entries at total ⌝ }
+{
+    EntryRows {
+        at,
+        total,
+        index: entries.first_index,
+        left: entries.count,
+    }
+}
+
+// The place after the item count, which is that of the first item.
+fn after_count(buf: &[u8]) -> usize
+    ensures { λ r. ⌜ r ≡ afterCount (now (buf .entry)) ⌝ }
+{
+    match log_item::read_number(buf, 0, Form::Any) {
+        Field::Done { value: _, next } => next,
+        Field::Refused(_) => 0,
+    }
+}

@@ -1,0 +1,4 @@
+pub mod ArrayLent
+pub mod Cut
+pub mod Parts
+pub mod Determined

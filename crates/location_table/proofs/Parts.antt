@@ -1,0 +1,150 @@
+-- The rows that are used, and what the definitions say of them.
+-- Assumes nothing.
+use mathlib.Core.Path.{_≡_, refl, sym, ap, subst, _∙_}
+use Prim.Native.Nat.{ℕ, zero, suc, _+_, _*_, _<_, _≤_, _^_}
+use native.Mathlib.Omega.{arith}
+use mathlib.Core.Bool.{Bool, true, false, cond, _&&_}
+use mathlib.Core.List.{List, [], _∷_, _++_}
+use lib.Dec.{leb}
+use lib.ListN.{length, take, drop}
+use lib.Seq.{length-take-le, length-front}
+use borrow.Author.Tests.{le-leb, lt-leb, leb-true}
+use denote.Slice.{Room}
+use Rattle.pipe_log.specs.declared.Location.{Location}
+use Rattle.pipe_log.proofs.Location as T
+use Rattle.memtable.specs.declared.Table.{Table}
+use Rattle.memtable.specs.declared.Gate.{Gate}
+use Rattle.memtable.specs.declared.Rewritten.{Rewritten}
+use Rattle.memtable.specs.declared.Fetched.{Fetched}
+use Rattle.memtable.specs.Rewriting.{unchanged, rewriteOf, rowsAfter}
+use Rattle.memtable.specs.Fetching.{fetchOf}
+use Rattle.location_table.specs.Values.{inReach, rowsUsed, answerOf, fetchedOf, rewriteValue, rowsValue, fetchValue}
+
+-- the three ways to use rows
+module _ (len other : ℕ) where
+  too-many : 64 < len → inReach len other ≡ false
+  too-many l = rw (lt-leb len 64 l) refl
+
+  others-many : len ≤ 64 → 64 < other → inReach len other ≡ false
+  others-many l m = rw (le-leb len 64 l, lt-leb other 64 m) refl
+
+  reached : len ≤ 64 → other ≤ 64 → inReach len other ≡ true
+  reached l m = rw (le-leb len 64 l, le-leb other 64 m) refl
+
+  pub used-none : 64 < len → 0 ≡ rowsUsed len other
+  unfolding rowsUsed
+  used-none l = rw (too-many l) refl
+
+  pub used-none-other : len ≤ 64 → 64 < other → 0 ≡ rowsUsed len other
+  unfolding rowsUsed
+  used-none-other l m = rw (others-many l m) refl
+
+  pub used-all : len ≤ 64 → other ≤ 64 → len ≡ rowsUsed len other
+  unfolding rowsUsed
+  used-all l m = rw (reached l m) refl
+
+  module _ (t : Table) (r a : Rewritten) where
+    pub answer-many : 64 < len → a ≡ unchanged 21 t → a ≡ answerOf len other t r
+    unfolding answerOf
+    answer-many l e = rw (too-many l) e
+
+    pub answer-many-other : len ≤ 64 → 64 < other → a ≡ unchanged 21 t → a ≡ answerOf len other t r
+    unfolding answerOf
+    answer-many-other l m e = rw (others-many l m) e
+
+  pub answer-whole : (t : Table) (r : Rewritten) → len ≤ 64 → other ≤ 64 → r ≡ answerOf len other t r
+  unfolding answerOf
+  answer-whole t r l m = rw (reached l m) refl
+
+pub fetched-many : (len : ℕ) (r : Fetched) → 64 < len → record { number = 21; place = 0; len = 0 } ≡ fetchedOf len r
+unfolding fetchedOf
+fetched-many len r l = rw (lt-leb len 64 l) refl
+
+pub fetched-whole : (len : ℕ) (r : Fetched) → len ≤ 64 → r ≡ fetchedOf len r
+unfolding fetchedOf
+fetched-whole len r l = rw (le-leb len 64 l) refl
+
+-- a conjunction's first part
+first-of : (a b : Bool) → (a && b) ≡ true → a ≡ true
+first-of true b e = refl
+first-of false b e = e
+
+-- no more rows are lent than an array has
+chosen : (b : Bool) (len n : ℕ) → (b ≡ true → len ≤ 64) → n ≡ cond b len 0 → n ≤ 64
+chosen true len n l e = omega (arith, l refl)
+chosen false len n l e = omega arith
+
+pub used-le : (len count n : ℕ) → n ≡ rowsUsed len count → n ≤ 64
+unfolding rowsUsed
+used-le len count n e = chosen (inReach len count) len n (λ z. leb-true len 64 (first-of (leb len 64) (leb count 64) z)) e
+
+module _ (xs : List Location) (n : ℕ) (l : n ≤ 64) (long : length xs ≡ 64) where
+  pub part-long : length (take n xs) ≡ n
+  part-long = length-take-le n xs (omega arith)
+
+  pub part-room : Room T.the-row (length (take n xs))
+  part-room = subst (Room T.the-row) (sym part-long) (small, room)
+    where
+      small : n < 2 ^ 64
+      small = omega (arith, l)
+
+      room : n * 40 < 2 ^ 63
+      room = omega (arith, l)
+
+pub whole-long : (xs : List Location) (n : ℕ) (zs : List Location) → length zs ≡ length (take n xs) → length xs ≡ 64 → length (zs ++ drop n xs) ≡ 64
+whole-long xs n zs e l = length-front xs zs n e ∙ l
+
+-- the test is the same with the two counts exchanged
+swapped : (a b : Bool) → (a && b) ≡ (b && a)
+swapped true true = refl
+swapped true false = refl
+swapped false true = refl
+swapped false false = refl
+
+module _ (xs : List Location) (len : ℕ) (t : Table) (ys : List Location) (count first : ℕ) (gate : Gate) (n m : ℕ) where
+  used-in : (b : Bool) → inReach len count ≡ b → n ≡ rowsUsed len count → m ≡ rowsUsed count len → (n ≡ cond b len 0) × (m ≡ cond b count 0)
+  unfolding rowsUsed
+  used-in b z e₁ e₂ = (e₁ ∙ ap (λ (x : Bool). cond x len 0) z, e₂ ∙ ap (λ (x : Bool). cond x count 0) (swapped (leb count 64) (leb len 64) ∙ z))
+
+  nothing-left : (zs : List Location) → length zs ≡ 0 → zs ++ xs ≡ xs
+  nothing-left [] e = refl
+  nothing-left (z ∷ zs) e = absurd (no e)
+    where
+      no : suc (length zs) ≡ 0 → ⊥
+      no h = omega arith
+
+  pub rows-are : (zs : List Location) → n ≡ rowsUsed len count → m ≡ rowsUsed count len → length zs ≡ length (take n xs) → zs ≡ rowsAfter (take n xs) t (take m ys) first gate → zs ++ drop n xs ≡ rowsValue xs len t ys count first gate
+  unfolding rowsValue
+  rows-are zs e₁ e₂ long e = told (inReach len count) refl
+    where
+      told : (b : Bool) → inReach len count ≡ b → zs ++ drop n xs ≡ cond (inReach len count) (rowsAfter (take len xs) t (take count ys) first gate ++ drop len xs) xs
+      told true z = rw z (all-used (used-in true z e₁ e₂ .0) (used-in true z e₁ e₂ .1))
+        where
+          all-used : n ≡ len → m ≡ count → zs ++ drop n xs ≡ rowsAfter (take len xs) t (take count ys) first gate ++ drop len xs
+          all-used a b = cc
+      told false z = rw z (none-used (used-in false z e₁ e₂ .0))
+        where
+          none-used : n ≡ 0 → zs ++ drop n xs ≡ xs
+          none-used a = ap (λ (k : ℕ). zs ++ drop k xs) a ∙ nothing-left zs (long ∙ ap (λ (k : ℕ). length (take k xs)) a)
+
+  pub answer-is : (d r : Rewritten) → n ≡ rowsUsed len count → m ≡ rowsUsed count len → d ≡ rewriteOf (take n xs) t (take m ys) first gate → r ≡ answerOf len count t d → r ≡ rewriteValue xs len t ys count first gate
+  unfolding rewriteValue answerOf
+  answer-is d r e₁ e₂ e f = f ∙ told (inReach len count) refl
+    where
+      told : (b : Bool) → inReach len count ≡ b → answerOf len count t d ≡ answerOf len count t (rewriteOf (take len xs) t (take count ys) first gate)
+      told true z = rw z (all-used (used-in true z e₁ e₂ .0) (used-in true z e₁ e₂ .1))
+        where
+          all-used : n ≡ len → m ≡ count → d ≡ rewriteOf (take len xs) t (take count ys) first gate
+          all-used a b = cc
+      told false z = rw z refl
+
+pub fetch-is : (xs : List Location) (len : ℕ) (t : Table) (gate n : ℕ) (d r : Fetched) → n ≡ rowsUsed len 0 → d ≡ fetchOf (take n xs) t gate → r ≡ fetchedOf len d → r ≡ fetchValue xs len t gate
+unfolding fetchValue fetchedOf rowsUsed
+fetch-is xs len t gate n d r e₁ e f = f ∙ told (leb len 64) refl
+  where
+    told : (b : Bool) → leb len 64 ≡ b → fetchedOf len d ≡ fetchedOf len (fetchOf (take len xs) t gate)
+    told true z = rw z (e ∙ ap (λ (k : ℕ). fetchOf (take k xs) t gate) all-used)
+      where
+        all-used : n ≡ len
+        all-used = e₁ ∙ (rw z refl)
+    told false z = rw z refl

@@ -1,0 +1,14 @@
+-- `location_table::fetched` meets its contract: a law for each way out.
+-- Assumes nothing.
+use Rattle.location_table.proofs.Parts.{fetched-many, fetched-whole}
+use Rattle.location_table.proofs.fetched.Statement.{statement}
+use Rattle.location_table.proofs.fetched.Tie as tie
+
+returns : tie.Need-returns
+returns c = fetched-many _ _ (c .if1 .taken)
+
+returns-2 : tie.Need-returns-2
+returns-2 c = fetched-whole _ _ (c .if1 .left)
+
+pub fetched-spec : {M : Type 1} → statement M
+fetched-spec = tie.close (tie.spec returns returns-2)

@@ -1,0 +1,38 @@
+-- Tables of at most 64 locations by value: memtable's definitions, of the rows that are used.
+-- Assumes nothing.
+use Prim.Native.Nat.{ℕ}
+use mathlib.Core.Bool.{Bool, cond, _&&_}
+use mathlib.Core.List.{List, _++_}
+use lib.Dec.{leb}
+use lib.ListN.{take, drop}
+use Rattle.pipe_log.specs.declared.Location.{Location}
+use Rattle.memtable.specs.declared.Table.{Table}
+use Rattle.memtable.specs.declared.Gate.{Gate}
+use Rattle.memtable.specs.declared.Rewritten.{Rewritten}
+use Rattle.memtable.specs.declared.Fetched.{Fetched}
+use Rattle.memtable.specs.Rewriting.{unchanged, rewriteOf, rowsAfter}
+use Rattle.memtable.specs.Fetching.{fetchOf}
+
+-- neither has more than 64 rows
+abbrev pub inReach : ℕ → ℕ → Bool
+inReach len count = leb len 64 && leb count 64
+
+unfoldable pub rowsUsed : ℕ → ℕ → ℕ
+rowsUsed len count = cond (inReach len count) len 0
+
+-- more than 64 rows: 21, nothing replaced and the old count
+unfoldable pub answerOf : ℕ → ℕ → Table → Rewritten → Rewritten
+answerOf len count t r = cond (inReach len count) r (unchanged 21 t)
+
+unfoldable pub fetchedOf : ℕ → Fetched → Fetched
+fetchedOf len r = cond (leb len 64) r (record { number = 21; place = 0; len = 0 })
+
+unfoldable pub rewriteValue : List Location → ℕ → Table → List Location → ℕ → ℕ → Gate → Rewritten
+rewriteValue rows len t incoming count first gate = answerOf len count t (rewriteOf (take len rows) t (take count incoming) first gate)
+
+-- the rows used are those after the rewrite, and the others as they were
+unfoldable pub rowsValue : List Location → ℕ → Table → List Location → ℕ → ℕ → Gate → List Location
+rowsValue rows len t incoming count first gate = cond (inReach len count) (rowsAfter (take len rows) t (take count incoming) first gate ++ drop len rows) rows
+
+unfoldable pub fetchValue : List Location → ℕ → Table → ℕ → Fetched
+fetchValue rows len t gate = fetchedOf len (fetchOf (take len rows) t gate)

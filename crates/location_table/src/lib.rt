@@ -1,0 +1,112 @@
+// Tables of at most 64 locations, by value: what calls these functions holds no slice of locations, and is covered. Each lends its
+// arrays to memtable's function of the same name.
+ghost use mathlib.Core.Path.{_≡_};
+ghost use Rattle.location_table.specs.Values.{rowsUsed, rewriteValue, rowsValue, fetchValue, answerOf, fetchedOf};
+use memtable::Fetched;
+use memtable::Gate;
+use memtable::Rewritten;
+use memtable::Table;
+use pipe_log::Location;
+
+// The rows after a rewrite of the first `len` rows by the first `count` incoming ones. More than 64 of either: as they were.
+pub fn rows_after(
+    rows: [Location; 64],
+    len: usize,
+    table: Table,
+    incoming: [Location; 64],
+    count: usize,
+    first: u64,
+    gate: Gate,
+) -> [Location; 64]
+    ensures { λ r. ⌜ r ≡ rowsValue rows len table incoming count first gate ⌝ }
+{
+    let n = used(len, count);
+    let m = used(count, len);
+    let mut t = rows;
+    let i = incoming;
+    let _r = memtable::rewrite(&mut t[..n], table, &i[..m], first, gate);
+    t
+}
+
+// The answer to that rewrite. More than 64 rows of either: 21.
+pub fn rewrite(
+    rows: [Location; 64],
+    len: usize,
+    table: Table,
+    incoming: [Location; 64],
+    count: usize,
+    first: u64,
+    gate: Gate,
+) -> Rewritten
+    ensures { λ r. ⌜ r ≡ rewriteValue rows len table incoming count first gate ⌝ }
+{
+    let n = used(len, count);
+    let m = used(count, len);
+    let mut t = rows;
+    let i = incoming;
+    let r = memtable::rewrite(&mut t[..n], table, &i[..m], first, gate);
+    answer(len, count, table, r)
+}
+
+// The fetch before a gate of the first `len` rows. More than 64: 21.
+pub fn fetch_entry_indexes_before(
+    rows: [Location; 64],
+    len: usize,
+    table: Table,
+    gate: u64,
+) -> Fetched
+    ensures { λ r. ⌜ r ≡ fetchValue rows len table gate ⌝ }
+{
+    let n = used(len, 0);
+    let t = rows;
+    let r = memtable::fetch_entry_indexes_before(&t[..n], table, gate);
+    fetched(len, r)
+}
+
+// How many rows are lent: none where there are more than 64 of these or of the others.
+fn used(len: usize, other: usize) -> usize
+    ensures { λ r. ⌜ r ≡ rowsUsed len other ⌝ }
+{
+    if 64 < len {
+        return 0;
+    }
+    if 64 < other {
+        return 0;
+    }
+    len
+}
+
+fn answer(len: usize, count: usize, table: Table, r: Rewritten) -> Rewritten
+    ensures { λ a. ⌜ a ≡ answerOf len count table r ⌝ }
+{
+    if 64 < len {
+        return too_many(table.count);
+    }
+    if 64 < count {
+        return too_many(table.count);
+    }
+    r
+}
+
+fn too_many(count: usize) -> Rewritten
+    ensures { λ a. ⌜ a ≡ record { number = 21; replaced = 0; count = count } ⌝ }
+{
+    Rewritten {
+        number: refusal::OUTPUT_SHORT,
+        replaced: 0,
+        count,
+    }
+}
+
+fn fetched(len: usize, r: Fetched) -> Fetched
+    ensures { λ a. ⌜ a ≡ fetchedOf len r ⌝ }
+{
+    if 64 < len {
+        return Fetched {
+            number: refusal::OUTPUT_SHORT,
+            place: 0,
+            len: 0,
+        };
+    }
+    r
+}

@@ -1,0 +1,51 @@
+-- The answer of a rewrite by the ways through `decide`: a law for each.
+-- Assumes nothing.
+use mathlib.Core.Path.{_≡_, refl, sym, ap, _∙_}
+use Prim.Native.Nat.{ℕ, _+_, _-_, _<_, _≤_, max}
+use native.Mathlib.Omega.{arith}
+use mathlib.Core.Bool.{Bool, true, false}
+use lib.Dec.{ltb, eqb}
+use borrow.Author.Tests.{lt-ltb, le-ltb, eq-eqb, ne-eqb}
+use Rattle.memtable.specs.declared.Table.{Table}
+use Rattle.memtable.specs.declared.Gate.{Gate}
+use Rattle.memtable.specs.declared.Rewritten.{Rewritten}
+use Rattle.memtable.specs.Rewriting.{early, countAfter, unchanged, answered}
+
+-- the answer where rows are replaced
+abbrev moved : ℕ → ℕ → Rewritten
+moved replaced count = record { number = 0; replaced = replaced; count = count }
+
+module _ (good ready : Bool) (t : Table) (start stop end : ℕ) (gate : Gate) (r : Rewritten) where
+  pub broken : good ≡ false → r ≡ unchanged 26 t → r ≡ answered good ready t (start) (stop - start) (end - start) gate
+  unfolding answered
+  broken g e = rw g e
+
+  pub unready : good ≡ true → ready ≡ false → r ≡ unchanged 27 t → r ≡ answered good ready t (start) (stop - start) (end - start) gate
+  unfolding answered
+  unready g h e = rw (g, h) e
+
+  pub apart : good ≡ true → ready ≡ true → stop ≤ start → r ≡ unchanged 0 t → r ≡ answered good ready t (start) (stop - start) (end - start) gate
+  unfolding answered
+  apart g h l e = rw (g, h, eq-eqb (stop - start) 0 (omega (arith, l))) e
+
+  -- the rest lies behind those three
+  module _ (g : good ≡ true) (h : ready ≡ true) (l : start < stop) where
+    some : eqb (stop - start) 0 ≡ false
+    some = ne-eqb (stop - start) 0 (λ z. omega (arith, z, l))
+
+    pub behind : t .count < start → r ≡ unchanged 24 t → r ≡ answered good ready t (start) (stop - start) (end - start) gate
+    unfolding answered
+    behind b e = rw (g, h, some, lt-ltb (t .count) (start) b) e
+
+    module _ (b : start ≤ t .count) where
+      pub before : {n : ℕ} → gate ≡ Gate.Given n → start < t .count → r ≡ unchanged 25 t → r ≡ answered good ready t (start) (stop - start) (end - start) gate
+      unfolding answered
+      before k z e = rw (g, h, some, le-ltb (t .count) (start) b, k, lt-ltb (start) (t .count) z) e
+
+      pub gated : {n : ℕ} → gate ≡ Gate.Given n → t .count ≤ start → start ≤ end → r ≡ moved (end - start) end → r ≡ answered good ready t (start) (stop - start) (end - start) gate
+      unfolding answered
+      gated k z y e = e ∙ (rw (g, h, some, le-ltb (t .count) (start) b, k, le-ltb (start) (t .count) z) (ap (moved (end - start)) (omega (arith, y))))
+
+      pub ungated : {c : ℕ} → gate ≡ Gate.None → start ≤ end → c ≡ max end (t .count) → r ≡ moved (end - start) c → r ≡ answered good ready t start (stop - start) (end - start) gate
+      unfolding answered
+      ungated k y z e = e ∙ (rw (g, h, some, le-ltb (t .count) start b, k) (ap (moved (end - start)) (omega (arith, y, z))))

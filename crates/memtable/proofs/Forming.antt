@@ -1,0 +1,74 @@
+-- Whether a table is well formed, and incoming rows are taken, by the ways through the functions that tell it from numbers.
+-- Assumes nothing.
+use mathlib.Core.Path.{_≡_, refl, sym, ap, _∙_}
+use Prim.Native.Nat.{ℕ, zero, suc, _+_, _-_, _<_, _≤_, _^_}
+use native.Mathlib.Omega.{arith}
+use mathlib.Core.Bool.{Bool, true, false, _&&_}
+use lib.Dec.{leb}
+use borrow.Author.Tests.{le-leb, lt-leb, leb-true, leb-false}
+use Rattle.memtable.specs.declared.Table.{Table}
+use Rattle.memtable.specs.declared.Fetched.{Fetched}
+use Rattle.memtable.specs.Table.{indexesFit}
+use Rattle.memtable.specs.Fetching.{fetched}
+use Rattle.memtable.specs.Private.{wellFormedBy, readyBy}
+
+-- two tests that hold together
+same-test : (a b c d : ℕ) → (a ≤ b → c ≤ d) → (b < a → d < c) → leb a b ≡ leb c d
+same-test a b c d f g = told (leb a b) refl
+  where
+    told : (t : Bool) → leb a b ≡ t → t ≡ leb c d
+    told true e = sym (le-leb c d (f (leb-true a b e)))
+    told false e = sym (lt-leb c d (g (leb-false a b e)))
+
+-- indexes from first on, n of them
+module _ (first n : ℕ) where
+  pub fit-none : n ≡ 0 → first < 2 ^ 64 → true ≡ indexesFit first n
+  fit-none e l = sym (le-leb (first + n) 18446744073709551616 (omega (arith, e, l)))
+
+  pub fit-some : (n ≡ 0 → ⊥) → first < 2 ^ 64 → leb (n - 1) (18446744073709551615 - first) ≡ indexesFit first n
+  fit-some e l = same-test (n - 1) (18446744073709551615 - first) (first + n) 18446744073709551616 (λ h. up h (some n e)) (λ h. down h (some n e))
+    where
+      some : (k : ℕ) → (k ≡ 0 → ⊥) → 1 ≤ k
+      some zero z = absurd (z refl)
+      some (suc k) z = omega arith
+
+      up : n - 1 ≤ 18446744073709551615 - first → 1 ≤ n → first + n ≤ 18446744073709551616
+      up h k = omega (arith, l)
+
+      down : 18446744073709551615 - first < n - 1 → 1 ≤ n → 18446744073709551616 < first + n
+      down h k = omega (arith, l)
+
+module _ (t : Table) (n front back : ℕ) where
+  pub beyond : n < t .count → false ≡ wellFormedBy t n front back
+  unfolding wellFormedBy
+  beyond l = rw (lt-leb (t .count) n l) refl
+
+  pub front-wrong : t .count ≤ n → front < t .count → false ≡ wellFormedBy t n front back
+  unfolding wellFormedBy
+  front-wrong l m = rw (le-leb (t .count) n l, lt-leb (t .count) front m) refl
+
+  pub back-wrong : t .count ≤ n → t .count ≤ front → back < n → false ≡ wellFormedBy t n front back
+  unfolding wellFormedBy
+  back-wrong l m k = rw (le-leb (t .count) n l, le-leb (t .count) front m, lt-leb n back k) refl
+
+  pub formed : {r : Bool} → t .count ≤ n → t .count ≤ front → n ≤ back → r ≡ indexesFit (t .first) n → r ≡ wellFormedBy t n front back
+  unfolding wellFormedBy
+  formed l m k e = rw (le-leb (t .count) n l, le-leb (t .count) front m, le-leb n back k) e
+
+module _ (last n first : ℕ) where
+  pub unready : last < n → false ≡ readyBy last n first
+  unfolding readyBy
+  unready l = rw (lt-leb n last l) refl
+
+  pub is-ready : {r : Bool} → n ≤ last → r ≡ indexesFit first n → r ≡ readyBy last n first
+  unfolding readyBy
+  is-ready l e = rw (le-leb n last l) e
+
+module _ (good : Bool) (t : Table) (run : ℕ) where
+  pub fetched-broken : good ≡ false → record { number = 26; place = 0; len = 0 } ≡ fetched good t run
+  unfolding fetched
+  fetched-broken e = rw e refl
+
+  pub fetched-run : good ≡ true → record { number = 0; place = t .count; len = run } ≡ fetched good t run
+  unfolding fetched
+  fetched-run e = rw e refl

@@ -1,0 +1,17 @@
+pub mod Place
+pub mod Loop
+pub mod Machine
+pub mod Queues
+pub mod Runs
+pub mod RunLaws
+pub mod Forming
+pub mod Surveys
+pub mod Overlaps
+pub mod Deciding
+pub mod Rewrites
+pub mod Pasting
+pub mod Outcomes
+pub mod Tables
+pub mod Fetches
+pub mod Determined
+pub mod Theorems

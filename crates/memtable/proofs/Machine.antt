@@ -1,0 +1,62 @@
+-- The machine's side of what the walks share: the row of a location, the machine values of the crate's types, and the type of a local.
+-- Assumes nothing.
+use Prim.Native.Nat.{ℕ, zero, suc}
+use mathlib.Core.List.{List, [], _∷_}
+use mir.Syntax.{Ty, Local, local, tyUnit}
+use mir.Val.{Val}
+use denote.RattleType.{RattleType}
+use denote.Laws.{Is}
+use denote.Struct.Laws as LL
+use denote.Enum.Laws as EL
+use Rattle.pipe_log.specs.declared.Location.{Location}
+use Rattle.pipe_log.proofs.Location as T
+use Rattle.pipe_log.proofs.Location.Laws as T′
+use Rattle.memtable.specs.declared.Table.{Table}
+use Rattle.memtable.specs.declared.Stop.{Stop}
+use Rattle.memtable.specs.declared.Overlap.{Overlap}
+use Rattle.memtable.specs.declared.Rewritten.{Rewritten}
+use Rattle.memtable.specs.declared.Fetched.{Fetched}
+use Rattle.memtable.proofs.Table as Tb
+use Rattle.memtable.proofs.Table.Laws as Tb′
+use Rattle.memtable.proofs.Stop as S
+use Rattle.memtable.proofs.Stop.Laws as S′
+use Rattle.memtable.proofs.Overlap as O
+use Rattle.memtable.proofs.Overlap.Laws as O′
+use Rattle.memtable.proofs.Rewritten as D
+use Rattle.memtable.proofs.Rewritten.Laws as D′
+use Rattle.memtable.proofs.Fetched as Ft
+use Rattle.memtable.proofs.Fetched.Laws as Ft′
+
+abbrev pub R : RattleType
+R = T.the-row
+
+-- the type of a local, as the code has it: antt compares a type's own `mir` with it at great length where the two were spelled by different tables
+abbrev pub tyAt : List Local → ℕ → Ty
+tyAt [] n = tyUnit
+tyAt (local τ h ∷ ls) zero = τ
+tyAt (local τ h ∷ ls) (suc n) = tyAt ls n
+
+abbrev pub valR : Location → Val
+valR = LL.val T.the-type T′.the-laws
+
+abbrev pub valT : Table → Val
+valT = LL.val Tb.the-type Tb′.the-laws
+
+abbrev pub valO : Overlap → Val
+valO = LL.val O.the-type O′.the-laws
+
+abbrev pub valD : Rewritten → Val
+valD = LL.val D.the-type D′.the-laws
+
+abbrev pub valF : Fetched → Val
+valF = LL.val Ft.the-type Ft′.the-laws
+
+abbrev pub valS : Stop → Val
+valS = EL.val S.the-type S′.the-laws
+
+-- the two tests that have no number
+pub is-append : Is S.the-row Stop.Append (valS Stop.Append ∷ [])
+is-append = EL.owes S.the-type S′.the-laws Stop.Append tt
+
+pub is-rewrite : Is S.the-row Stop.Rewrite (valS Stop.Rewrite ∷ [])
+is-rewrite = EL.owes S.the-type S′.the-laws Stop.Rewrite tt

@@ -1,0 +1,84 @@
+-- The two outcomes of a rewrite: the table is kept, or the run is replaced. And the rows afterwards, around the run.
+-- Assumes nothing.
+use mathlib.Core.Path.{_≡_, refl, sym, ap, _∙_}
+use Prim.Native.Nat.{ℕ, zero, suc, _+_, _-_, _<_, _≤_, min}
+use native.Mathlib.Nat.{zero-add}
+use native.Mathlib.Omega.{arith}
+use mathlib.Core.Bool.{Bool, true, false, not, cond, _&&_}
+use mathlib.Core.List.{List, [], _∷_, _++_}
+use lib.Dec.{ltb, eqb, leb}
+use lib.ListN.{length, take, drop, length-take, length-drop}
+use lib.Seq.{paste, paste-zero, length-paste, take-paste, drop-paste, take-add, drop-drop, take-take, take-append-le, length-take-le}
+use borrow.Author.Tests.{not-false, eqb-false, ltb-false, leb-true, leb-false, le-leb}
+use Rattle.pipe_log.specs.declared.Location.{Location}
+use Rattle.memtable.specs.declared.Table.{Table}
+use Rattle.memtable.specs.declared.Gate.{Gate}
+use Rattle.memtable.specs.declared.Rewritten.{Rewritten}
+use Rattle.memtable.specs.Rows.{inAppend, inRewrite, runOf}
+use Rattle.memtable.specs.Table.{all, indexesFit, wellFormed, ready}
+use Rattle.memtable.specs.Rewriting.{stopOf, startPlace, startFrom, overlapLength, runLength, early, countAfter, unchanged, answered, rewriteOf, rowsAfter}
+use Rattle.memtable.proofs.Queues.{both, together, all-join, all-take, all-drop}
+use Rattle.memtable.proofs.RunLaws.{run-take-le}
+
+pub data Outcome (good isReady : Bool) (t : Table) (place overlap run : ℕ) (gate : Gate) : Rewritten → Type 0 where
+  kept : (number : ℕ) → Outcome good isReady t place overlap run gate (unchanged number t)
+  done : good ≡ true → isReady ≡ true → (overlap ≡ 0 → ⊥) → place ≤ t .count → early gate place (t .count) ≡ false
+      → Outcome good isReady t place overlap run gate (record { number = 0; replaced = run; count = countAfter gate (place + run) (t .count) })
+
+module _ (good isReady : Bool) (t : Table) (place overlap run : ℕ) (gate : Gate) where
+  abbrev Is : Rewritten → Type 0
+  Is = Outcome good isReady t place overlap run gate
+
+  choose : (b : Bool) (x y : Rewritten) → Is x → (b ≡ false → Is y) → Is (cond b x y)
+  choose true x y p q = p
+  choose false x y p q = q refl
+
+  pub outcome-of : Is (answered good isReady t place overlap run gate)
+  unfolding answered
+  outcome-of =
+      choose (not good) _ _ (kept 26) (λ g. choose (not isReady) _ _ (kept 27) (λ r. choose (eqb overlap 0) _ _ (kept 0) (λ o. choose (ltb (t .count) place) _ _ (kept 24) (λ p. choose (early gate place (t .count)) _ _ (kept 25)
+      (λ e. done (not-false good g) (not-false isReady r) (eqb-false overlap 0 o) (ltb-false (t .count) place p) e)))))
+
+-- what is no longer than an overlap, and there is one, fits behind its start
+below : (n p b k : ℕ) → (min (n - p) b ≡ 0 → ⊥) → k ≤ min (n - p) b → p + k ≤ n
+below n p b zero h l = start n p b h
+  where
+    start : (n p b : ℕ) → (min (n - p) b ≡ 0 → ⊥) → p + 0 ≤ n
+    start n p b h = told (leb p n) refl
+      where
+        told : (x : Bool) → leb p n ≡ x → p + 0 ≤ n
+        told true e = omega (arith, leb-true p n e)
+        told false e = absurd (h (omega (arith, leb-false p n e)))
+below n p b (suc k) h l = omega (arith, l)
+
+module _ (rows : List Location) (t : Table) (incoming : List Location) (first : ℕ) (gate : Gate) where
+  abbrev pub place : ℕ
+  place = startPlace t first
+
+  abbrev pub source : List Location
+  source = drop (startFrom t first) incoming
+
+  abbrev pub overlap : ℕ
+  overlap = overlapLength rows t incoming first
+
+  abbrev pub run : ℕ
+  run = runLength rows t incoming first gate
+
+  -- an outcome of this rewrite
+  abbrev pub Outcomes : Rewritten → Type 0
+  Outcomes = Outcome (wellFormed rows t) (ready incoming first) t place overlap run gate
+
+  pub outcome : Outcomes (rewriteOf rows t incoming first gate)
+  unfolding rewriteOf
+  outcome = outcome-of (wellFormed rows t) (ready incoming first) t place overlap run gate
+
+  pub after-is : rowsAfter rows t incoming first gate ≡ paste rows place source (rewriteOf rows t incoming first gate .replaced)
+  unfolding rowsAfter
+  after-is = refl
+
+  -- the run lies in the rows and in the incoming ones
+  pub run-in-rows : (overlap ≡ 0 → ⊥) → place + run ≤ length rows
+  run-in-rows some = below (length rows) place (length incoming - startFrom t first) run some (run-take-le (stopOf gate) overlap (drop place rows))
+
+  pub run-in-source : run ≤ length source
+  run-in-source = omega (arith, run-take-le (stopOf gate) overlap (drop place rows), length-drop (startFrom t first) incoming)

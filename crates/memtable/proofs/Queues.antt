@@ -1,0 +1,70 @@
+-- Rows that are all in one queue: parts of them, and how many they are.
+-- Assumes nothing.
+use mathlib.Core.Path.{_≡_, refl, sym, ap, _∙_}
+use Prim.Native.Nat.{ℕ, zero, suc, _+_, _≤_}
+use native.Mathlib.Nat.{zero-add}
+use native.Mathlib.Omega.{arith}
+use mathlib.Core.Bool.{Bool, true, false, cond, _&&_, true≢false}
+use mathlib.Core.List.{List, [], _∷_, _++_}
+use lib.ListN.{length, take, drop, take-append-drop}
+use Rattle.pipe_log.specs.declared.Location.{Location}
+use Rattle.pipe_log.specs.declared.LogQueue.{LogQueue}
+use Rattle.memtable.specs.Rows.{isAppend, isRewrite, inAppend, inRewrite, rowsIn}
+use Rattle.memtable.specs.Table.{all}
+
+-- a conjunction, taken apart and put together
+pub both : (a b : Bool) → (a && b) ≡ true → (a ≡ true) × (b ≡ true)
+both true b e = (refl, e)
+both false b e = absurd (true≢false (sym e))
+
+pub together : (a b : Bool) → a ≡ true → b ≡ true → (a && b) ≡ true
+together a b e f = rw (e, f) refl
+
+module _ (test : Location → Bool) where
+  pub all-join : (a b : List Location) → all test a ≡ true → all test b ≡ true → all test (a ++ b) ≡ true
+  all-join [] b e f = f
+  all-join (r ∷ a) b e f = let z : (test r ≡ true) × (all test a ≡ true) = both (test r) (all test a) e in together (test r) (all test (a ++ b)) (z .0) (all-join a b (z .1) f)
+
+  pub all-left : (a b : List Location) → all test (a ++ b) ≡ true → all test a ≡ true
+  all-left [] b e = refl
+  all-left (r ∷ a) b e = let z : (test r ≡ true) × (all test (a ++ b) ≡ true) = both (test r) (all test (a ++ b)) e in together (test r) (all test a) (z .0) (all-left a b (z .1))
+
+  pub all-right : (a b : List Location) → all test (a ++ b) ≡ true → all test b ≡ true
+  all-right [] b e = e
+  all-right (r ∷ a) b e = all-right a b (both (test r) (all test (a ++ b)) e .1)
+
+  pub all-take : (k : ℕ) (rows : List Location) → all test rows ≡ true → all test (take k rows) ≡ true
+  all-take k rows e = all-left (take k rows) (drop k rows) (ap (all test) (take-append-drop k rows) ∙ e)
+
+  pub all-drop : (k : ℕ) (rows : List Location) → all test rows ≡ true → all test (drop k rows) ≡ true
+  all-drop k rows e = all-right (take k rows) (drop k rows) (ap (all test) (take-append-drop k rows) ∙ e)
+
+  -- how many they are
+  counted : (b : Bool) (x y : ℕ) → cond b (suc (x + y)) (x + y) ≡ cond b (suc x) x + y
+  counted true x y = omega arith
+  counted false x y = refl
+
+  pub rowsIn-join : (a b : List Location) → rowsIn test (a ++ b) ≡ rowsIn test a + rowsIn test b
+  rowsIn-join [] b = sym (zero-add (rowsIn test b))
+  rowsIn-join (r ∷ a) b = ap (λ (k : ℕ). cond (test r) (suc k) k) (rowsIn-join a b) ∙ counted (test r) (rowsIn test a) (rowsIn test b)
+
+  pub rowsIn-all : (rows : List Location) → all test rows ≡ true → rowsIn test rows ≡ length rows
+  rowsIn-all [] e = refl
+  rowsIn-all (r ∷ rs) e = let z : (test r ≡ true) × (all test rs ≡ true) = both (test r) (all test rs) e in (rw (z .0) (ap suc (rowsIn-all rs (z .1))))
+
+-- a row is in one queue alone
+not-rewrite : (q : LogQueue) → isAppend q ≡ true → isRewrite q ≡ false
+not-rewrite LogQueue.Append e = refl
+not-rewrite LogQueue.Rewrite e = sym e
+
+not-append : (q : LogQueue) → isRewrite q ≡ true → isAppend q ≡ false
+not-append LogQueue.Append e = sym e
+not-append LogQueue.Rewrite e = refl
+
+pub none-rewrite : (rows : List Location) → all inAppend rows ≡ true → rowsIn inRewrite rows ≡ 0
+none-rewrite [] e = refl
+none-rewrite (r ∷ rs) e = let z : (inAppend r ≡ true) × (all inAppend rs ≡ true) = both (inAppend r) (all inAppend rs) e in (rw (not-rewrite (r .queue) (z .0)) (none-rewrite rs (z .1)))
+
+pub none-append : (rows : List Location) → all inRewrite rows ≡ true → rowsIn inAppend rows ≡ 0
+none-append [] e = refl
+none-append (r ∷ rs) e = let z : (inRewrite r ≡ true) × (all inRewrite rs ≡ true) = both (inRewrite r) (all inRewrite rs) e in (rw (not-append (r .queue) (z .0)) (none-append rs (z .1)))

@@ -1,0 +1,59 @@
+-- How long a run of rows is: in a part of them, and after it.
+-- Assumes nothing.
+use mathlib.Core.Path.{_≡_, refl, sym, ap, _∙_}
+use Prim.Native.Nat.{ℕ, zero, suc, _+_, _-_, _≤_}
+use native.Mathlib.Nat.{le-refl}
+use native.Mathlib.Omega.{arith}
+use mathlib.Core.Bool.{Bool, true, false, cond, _&&_}
+use mathlib.Core.List.{List, [], _∷_}
+use lib.ListN.{length, take, drop, length-take}
+use Rattle.pipe_log.specs.declared.Location.{Location}
+use Rattle.memtable.specs.declared.Stop.{Stop}
+use Rattle.memtable.specs.Rows.{inAppend, stopsAt, runOf}
+use Rattle.memtable.specs.Table.{all}
+use Rattle.memtable.proofs.Queues.{both}
+
+-- a row more
+one-more : (b : Bool) (k n : ℕ) → k ≤ n → cond b 0 (suc k) ≤ suc n
+one-more true k n l = omega arith
+one-more false k n l = omega (arith, l)
+
+both-more : (b : Bool) (k n : ℕ) → k ≤ n → cond b 0 (suc k) ≤ cond b 0 (suc n)
+both-more true k n l = le-refl 0
+both-more false k n l = omega (arith, l)
+
+module _ (s : Stop) where
+  pub run-le : (rows : List Location) → runOf s rows ≤ length rows
+  run-le [] = le-refl 0
+  run-le (r ∷ rs) = one-more (stopsAt s r) (runOf s rs) (length rs) (run-le rs)
+
+  pub run-take-le : (k : ℕ) (rows : List Location) → runOf s (take k rows) ≤ k
+  run-take-le k rows = omega (arith, run-le (take k rows), length-take k rows)
+
+  pub run-part : (k : ℕ) (rows : List Location) → runOf s (take k rows) ≤ runOf s rows
+  run-part zero rows = omega arith
+  run-part (suc k) [] = le-refl 0
+  run-part (suc k) (r ∷ rs) = both-more (stopsAt s r) (runOf s (take k rs)) (runOf s rs) (run-part k rs)
+
+  -- the rows of a run have no stop, and the run ends at one
+  pub run-whole : (rows : List Location) → runOf s (take (runOf s rows) rows) ≡ runOf s rows
+  run-whole [] = refl
+  run-whole (r ∷ rs) = told (stopsAt s r) refl (run-whole rs)
+    where
+      told : (b : Bool) → stopsAt s r ≡ b → runOf s (take (runOf s rs) rs) ≡ runOf s rs → runOf s (take (runOf s (r ∷ rs)) (r ∷ rs)) ≡ runOf s (r ∷ rs)
+      told true e h = rw e refl
+      told false e h = rw (e, e) (ap suc h)
+
+  pub run-over : (rows : List Location) → runOf s (drop (runOf s rows) rows) ≡ 0
+  run-over [] = refl
+  run-over (r ∷ rs) = told (stopsAt s r) refl (run-over rs)
+    where
+      told : (b : Bool) → stopsAt s r ≡ b → runOf s (drop (runOf s rs) rs) ≡ 0 → runOf s (drop (runOf s (r ∷ rs)) (r ∷ rs)) ≡ 0
+      told true e h = rw (e, e) refl
+      told false e h = rw e h
+
+-- without a gate: where the rows from place j on are in the append queue, a run ends there or before
+pub run-front : (j : ℕ) (rows : List Location) → all inAppend (drop j rows) ≡ true → runOf Stop.Append rows ≤ j
+run-front j [] e = omega arith
+run-front zero (r ∷ rs) e = rw (both (inAppend r) (all inAppend rs) e .0) (le-refl 0)
+run-front (suc j) (r ∷ rs) e = one-more (inAppend r) (runOf Stop.Append rs) j (run-front j rs e)

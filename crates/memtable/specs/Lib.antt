@@ -1,0 +1,5 @@
+pub mod Rows
+pub mod Table
+pub mod Rewriting
+pub mod Fetching
+pub mod Private

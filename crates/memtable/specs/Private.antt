@@ -1,0 +1,23 @@
+-- What the contracts of private functions cite: no public contract does.
+-- Assumes nothing.
+use Prim.Native.Nat.{ℕ, _+_, _-_, min}
+use mathlib.Core.Bool.{Bool, _&&_, cond}
+use lib.Dec.{leb, eqb}
+use Rattle.memtable.specs.declared.Table.{Table}
+use Rattle.memtable.specs.declared.Overlap.{Overlap}
+use Rattle.memtable.specs.Table.{indexesFit}
+
+-- a table of n rows, of which the first in the wrong queue stand at front, before the count, and at back, after it
+unfoldable pub wellFormedBy : Table → ℕ → ℕ → ℕ → Bool
+wellFormedBy t n front back = leb (t .count) n && (leb (t .count) front && (leb n back && indexesFit (t .first) n))
+
+-- n incoming rows, of which the first that is not in the rewrite queue stands at last
+unfoldable pub readyBy : ℕ → ℕ → ℕ → Bool
+readyBy last n first = leb n last && indexesFit first n
+
+-- the overlap that starts at this row and that incoming row, of n rows and m incoming ones
+abbrev pub overlapAt : ℕ → ℕ → ℕ → Overlap
+overlapAt place from len = cond (eqb len 0) (record { start = 0; end = 0; from = 0 }) (record { start = place; end = place + len; from = from })
+
+unfoldable pub overlapOf : ℕ → ℕ → ℕ → ℕ → Overlap
+overlapOf place from n m = overlapAt place from (min (n - place) (m - from))

@@ -1,0 +1,311 @@
+// The locations of a Raft group's entries: the rewrite of rows, and the fetch of those before a gate. From memtable.rs, rewrite and
+// fetch_entry_indexes_before.
+ghost use mathlib.Core.Path.{_≡_};
+ghost use Prim.Native.Nat.{_+_, _-_, _<_, _≤_, min, max};
+ghost use lib.ListN.{length, take, drop};
+ghost use lib.Seq.{paste};
+ghost use Rattle.memtable.specs.Rows.{stopsAt, runOf};
+ghost use Rattle.memtable.specs.Table.{indexesFit, wellFormed};
+ghost use Rattle.memtable.specs.Rewriting.{stopOf, answered, rewriteOf, rowsAfter};
+ghost use Rattle.memtable.specs.Fetching.{fetched, fetchOf};
+ghost use Rattle.memtable.specs.Private.{wellFormedBy, readyBy, overlapAt, overlapOf};
+use pipe_log::Location;
+use pipe_log::LogQueue;
+
+// A table by value. Its rows are lent beside it, and row i has the index first + i.
+pub struct Table {
+    // first index
+    pub first: u64,
+    // rewritten count: the rows before it are in the rewrite queue
+    pub count: usize,
+}
+
+// The file number up to which rows of the append queue are rewritten, where one is given.
+pub enum Gate {
+    None,
+    Given(u64),
+}
+
+// The answer to a rewrite: the refusal's number or 0, how many rows were replaced, and the rewritten count.
+pub struct Rewritten {
+    pub number: u32,
+    pub replaced: usize,
+    pub count: usize,
+}
+
+// The answer to a fetch: the refusal's number or 0, and the place and length of the run.
+pub struct Fetched {
+    pub number: u32,
+    pub place: usize,
+    pub len: usize,
+}
+
+// What ends a run of rows: a row of the append queue, a row of the rewrite queue, or a row whose file number is above a gate.
+enum Stop {
+    Append,
+    Rewrite,
+    Above(u64),
+}
+
+// The overlap of a table and incoming rows: the table's rows start to end, and the incoming rows from `from` on. Nothing: 0, 0, 0.
+struct Overlap {
+    start: usize,
+    end: usize,
+    from: usize,
+}
+
+// Replaces the rows that overlap the incoming ones, from the overlap's start until its end or the first stop. The incoming rows are
+// consecutive from the index `first` on. A refused rewrite changes no row.
+pub fn rewrite(
+    rows: &mut [Location],
+    table: Table,
+    incoming: &[Location],
+    first: u64,
+    gate: Gate,
+) -> Rewritten
+    ensures { λ r. ⌜ (r ≡ rewriteOf (now (rows .entry)) table (now (incoming .entry)) first gate) × (now (rows .exit) ≡ rowsAfter (now (rows .entry)) table (now (incoming .entry)) first gate) ⌝ }
+{
+    let good = is_well_formed(rows, table);
+    let last = scan(incoming, 0, incoming.len(), Stop::Append);
+    let ready = is_ready(last, incoming.len(), first);
+    let over = overlap_of(table.first, rows.len(), first, incoming.len());
+    let stop = stop_of(gate);
+    let end = scan(rows, over.start, over.end, stop);
+    let answer = decide(good, ready, table, over, end, gate);
+    replace(rows, incoming, over.start, over.from, answer.replaced);
+    answer
+}
+
+// The longest run of rows from the rewritten count on with file number at most the gate.
+pub fn fetch_entry_indexes_before(rows: &[Location], table: Table, gate: u64) -> Fetched
+    ensures { λ r. ⌜ r ≡ fetchOf (now (rows .entry)) table gate ⌝ }
+{
+    let good = is_well_formed(rows, table);
+    let start = smaller(table.count, rows.len());
+    let end = scan(rows, start, rows.len(), Stop::Above(gate));
+    run_from(good, table, start, end)
+}
+
+// Whether the table is well formed.
+fn is_well_formed(rows: &[Location], table: Table) -> bool
+    ensures { λ r. ⌜ r ≡ wellFormed (now (rows .entry)) table ⌝ }
+{
+    let count = smaller(table.count, rows.len());
+    let front = scan(rows, 0, count, Stop::Append);
+    let back = scan(rows, count, rows.len(), Stop::Rewrite);
+    is_formed(table, rows.len(), front, back)
+}
+
+// Where the first row that stops the run stands, from lo on and before hi, or hi.
+fn scan(rows: &[Location], lo: usize, hi: usize, stop: Stop) -> usize
+    requires { ⌜ (lo ≤ hi) × (hi ≤ length (now rows)) ⌝ }
+    ensures { λ r. ⌜ r ≡ lo + runOf stop (take (hi - lo) (drop lo (now (rows .entry)))) ⌝ }
+{
+    let mut i: usize = lo;
+    while i < hi {
+        if stops(rows[i], stop) {
+            break;
+        }
+        i = i + 1;
+    }
+    i
+}
+
+// Puts k incoming rows, those from `from` on, in the place of the rows from start on.
+fn replace(rows: &mut [Location], incoming: &[Location], start: usize, from: usize, k: usize)
+    requires { ⌜ (start + k ≤ length (now rows)) × (from + k ≤ length (now incoming)) ⌝ }
+    ensures { λ _. ⌜ now (rows .exit) ≡ paste (now (rows .entry)) start (drop from (now (incoming .entry))) k ⌝ }
+{
+    let mut i: usize = 0;
+    while i < k {
+        rows[start + i] = incoming[from + i];
+        i = i + 1;
+    }
+}
+
+// Whether the row ends the run.
+fn stops(row: Location, stop: Stop) -> bool
+    ensures { λ r. ⌜ r ≡ stopsAt stop row ⌝ }
+{
+    let queue = row.queue;
+    match stop {
+        Stop::Append => match queue {
+            LogQueue::Append => true,
+            LogQueue::Rewrite => false,
+        },
+        Stop::Rewrite => match queue {
+            LogQueue::Append => false,
+            LogQueue::Rewrite => true,
+        },
+        Stop::Above(gate) => gate < row.seq,
+    }
+}
+
+// What ends the run of rows that are replaced under this gate.
+fn stop_of(gate: Gate) -> Stop
+    ensures { λ r. ⌜ r ≡ stopOf gate ⌝ }
+{
+    match gate {
+        Gate::None => Stop::Append,
+        Gate::Given(number) => Stop::Above(number),
+    }
+}
+
+fn smaller(a: usize, b: usize) -> usize
+    ensures { λ r. ⌜ r ≡ min a b ⌝ }
+{
+    if a < b { a } else { b }
+}
+
+fn larger(a: usize, b: usize) -> usize
+    ensures { λ r. ⌜ r ≡ max a b ⌝ }
+{
+    if a < b { b } else { a }
+}
+
+// Whether the indexes of n rows from first on end at 2^64 - 1 or before.
+fn fits(first: u64, n: usize) -> bool
+    ensures { λ r. ⌜ r ≡ indexesFit first n ⌝ }
+{
+    if n == 0 {
+        return true;
+    }
+    let room = 18446744073709551615 - first;
+    (n - 1) as u64 <= room
+}
+
+// Whether a table of n rows is well formed, by where a row of the wrong queue stands: the first before the count, and the first after it.
+fn is_formed(table: Table, n: usize, front: usize, back: usize) -> bool
+    ensures { λ r. ⌜ r ≡ wellFormedBy table n front back ⌝ }
+{
+    let count = table.count;
+    if n < count {
+        return false;
+    }
+    if front < count {
+        return false;
+    }
+    if back < n {
+        return false;
+    }
+    fits(table.first, n)
+}
+
+// Whether n incoming rows are taken, by where the first that is not in the rewrite queue stands.
+fn is_ready(last: usize, n: usize, first: u64) -> bool
+    ensures { λ r. ⌜ r ≡ readyBy last n first ⌝ }
+{
+    if last < n {
+        return false;
+    }
+    fits(first, n)
+}
+
+// The overlap of n rows from the index `own` on and m incoming rows from the index `first` on.
+fn overlap_of(own: u64, n: usize, first: u64, m: usize) -> Overlap
+    ensures { λ r. ⌜ r ≡ overlapOf (first - own) (own - first) n m ⌝ }
+{
+    if own <= first {
+        let start = (first - own) as usize;
+        if n <= start {
+            return overlap_at(0, 0, 0);
+        }
+        return overlap_at(start, 0, smaller(n - start, m));
+    }
+    let from = (own - first) as usize;
+    if m <= from {
+        return overlap_at(0, 0, 0);
+    }
+    overlap_at(0, from, smaller(n, m - from))
+}
+
+// The overlap of len rows from these places on.
+fn overlap_at(start: usize, from: usize, len: usize) -> Overlap
+    requires { ⌜ start + len < 18446744073709551616 ⌝ }
+    ensures { λ r. ⌜ r ≡ overlapAt start from len ⌝ }
+{
+    if len == 0 {
+        return Overlap {
+            start: 0,
+            end: 0,
+            from: 0,
+        };
+    }
+    Overlap {
+        start,
+        end: start + len,
+        from,
+    }
+}
+
+// The answer: the first check that fails, else how many rows are replaced, and the count. The run of rows before the first stop goes
+// from the overlap's start to `end`.
+fn decide(good: bool, ready: bool, table: Table, over: Overlap, end: usize, gate: Gate) -> Rewritten
+    requires { ⌜ over .start ≤ end ⌝ }
+    ensures { λ r. ⌜ r ≡ answered good ready table (over .start) (over .end - over .start) (end - over .start) gate ⌝ }
+{
+    let count = table.count;
+    let start = over.start;
+    let limit = over.end;
+    if !good {
+        return unchanged(refusal::TABLE_BROKEN, count);
+    }
+    if !ready {
+        return unchanged(refusal::INCOMING_BROKEN, count);
+    }
+    if limit <= start {
+        return unchanged(refusal::NONE, count);
+    }
+    if count < start {
+        return unchanged(refusal::OVERLAP_AFTER, count);
+    }
+    let run = end - start;
+    match gate {
+        Gate::None => moved(run, larger(end, count)),
+        Gate::Given(_number) => {
+            if start < count {
+                return unchanged(refusal::OVERLAP_BEFORE, count);
+            }
+            moved(run, end)
+        }
+    }
+}
+
+fn unchanged(number: u32, count: usize) -> Rewritten
+    ensures { λ r. ⌜ r ≡ record { number = number; replaced = 0; count = count } ⌝ }
+{
+    Rewritten {
+        number,
+        replaced: 0,
+        count,
+    }
+}
+
+fn moved(replaced: usize, count: usize) -> Rewritten
+    ensures { λ r. ⌜ r ≡ record { number = 0; replaced = replaced; count = count } ⌝ }
+{
+    Rewritten {
+        number: refusal::NONE,
+        replaced,
+        count,
+    }
+}
+
+// The run of a table from its rewritten count on; it goes from start to end.
+fn run_from(formed: bool, table: Table, start: usize, end: usize) -> Fetched
+    requires { ⌜ start ≤ end ⌝ }
+    ensures { λ r. ⌜ r ≡ fetched formed table (end - start) ⌝ }
+{
+    if !formed {
+        return Fetched {
+            number: refusal::TABLE_BROKEN,
+            place: 0,
+            len: 0,
+        };
+    }
+    Fetched {
+        number: refusal::NONE,
+        place: table.count,
+        len: end - start,
+    }
+}
