@@ -1,12 +1,12 @@
 -- How long a run of rows is: in a part of them, and after it.
 -- Assumes nothing.
 use mathlib.Core.Path.{_≡_, refl, sym, ap, _∙_}
-use Prim.Native.Nat.{ℕ, zero, suc, _+_, _-_, _≤_}
-use native.Mathlib.Nat.{le-refl}
+use Prim.Native.Nat.{ℕ, zero, suc, _+_, _-_, _<_, _≤_}
+use native.Mathlib.Nat.{le-refl, not-suc-le-zero, le-of-suc-le-suc}
 use native.Mathlib.Omega.{arith}
 use mathlib.Core.Bool.{Bool, true, false, cond, _&&_}
 use mathlib.Core.List.{List, [], _∷_}
-use lib.ListN.{length, take, drop, length-take}
+use lib.ListN.{length, getD, take, drop, length-take}
 use Rattle.pipe_log.specs.declared.Location.{Location}
 use Rattle.memtable.specs.declared.Stop.{Stop}
 use Rattle.memtable.specs.Rows.{inAppend, stopsAt, runOf}
@@ -57,3 +57,21 @@ pub run-front : (j : ℕ) (rows : List Location) → all inAppend (drop j rows) 
 run-front j [] e = omega arith
 run-front zero (r ∷ rs) e = rw (both (inAppend r) (all inAppend rs) e .0) (le-refl 0)
 run-front (suc j) (r ∷ rs) e = one-more (inAppend r) (runOf Stop.Append rs) j (run-front j rs e)
+
+-- A run is the longest: no row of it stops, and where it ends before the rows do, the next row does.
+pub run-no-stop : (s : Stop) (rows : List Location) (i : ℕ) (d : Location) → i < runOf s rows → stopsAt s (getD rows i d) ≡ false
+run-no-stop s [] i d l = absurd (not-suc-le-zero l)
+run-no-stop s (r ∷ rs) i d l = told (stopsAt s r) refl i l (λ j. run-no-stop s rs j d)
+  where
+    told : (b : Bool) → stopsAt s r ≡ b → (j : ℕ) → j < runOf s (r ∷ rs) → ((k : ℕ) → k < runOf s rs → stopsAt s (getD rs k d) ≡ false) → stopsAt s (getD (r ∷ rs) j d) ≡ false
+    told true e j m h = absurd (not-suc-le-zero (rw e at m))
+    told false e zero m h = e
+    told false e (suc j) m h = h j (le-of-suc-le-suc (rw e at m))
+
+pub run-at-stop : (s : Stop) (rows : List Location) (d : Location) → runOf s rows < length rows → stopsAt s (getD rows (runOf s rows) d) ≡ true
+run-at-stop s [] d l = absurd (not-suc-le-zero l)
+run-at-stop s (r ∷ rs) d l = told (stopsAt s r) refl l (run-at-stop s rs d)
+  where
+    told : (b : Bool) → stopsAt s r ≡ b → runOf s (r ∷ rs) < length (r ∷ rs) → (runOf s rs < length rs → stopsAt s (getD rs (runOf s rs) d) ≡ true) → stopsAt s (getD (r ∷ rs) (runOf s (r ∷ rs)) d) ≡ true
+    told true e m h = rw e e
+    told false e m h = rw e (h (le-of-suc-le-suc (rw e at m)))
