@@ -1,8 +1,8 @@
 """The lines of the program vectors: what each kind of case prints, by the model. crates/vectors/src/cases.rt has the kinds."""
 import struct
 
-from model import BLANK_ROW, Reader, Refused, Table, crc, little, read_batch, read_body, read_header, read_item, read_items, read_number
-from model import spell, status, view, write_batch, write_body
+from model import BLANK_ROW, Reader, Refused, Table, crc, fetch, little, next_row, read_batch, read_body, read_header, read_item
+from model import read_items, read_number, rewrite, spell, status, step, view, write_batch, write_body
 
 
 def data(word):
@@ -186,7 +186,83 @@ def do_encode(name, *words):
     return out
 
 
+def locations(word):
+    """Rows of locations, as crates/vectors/src/locations.rt has them; a number that is missing is 0."""
+    rows = [] if word == "-" else [(row.split(",") + ["0"] * 5)[:6] for row in word.split(";")]
+    return [(row[0], *[int(x, 16) for x in row[1:]]) for row in rows]
+
+
+class Call:
+    """A call on a table of locations: its words, what it is asked on, and what it answers."""
+
+    def __init__(self, first, count, rows, words):
+        self.kind, self.first, self.count, self.rows = words[0], first, count, rows
+        self.gate = None if words[1] == "-" else int(words[1], 16)
+        self.number, self.place, self.length = 0, 0, 0
+        self.replaced, self.count_after, self.after = 0, count, rows
+        try:
+            if self.kind == "rewrite":
+                self.incoming_first, self.incoming = int(words[2], 16), locations(words[3])
+                self.replaced, self.count_after, self.after = rewrite(
+                    first, count, rows, self.gate, self.incoming_first, self.incoming)
+            else:
+                self.place, self.length = fetch(first, count, rows, self.gate)
+        except Refused as why:
+            self.number = why.number
+
+
+def calls(first, count, rows, *words):
+    """The calls of a line, each on what the one before it left."""
+    first, count, rows = int(first, 16), int(count, 16), locations(rows)
+    out = []
+    while words:
+        n = {"rewrite": 4, "fetch": 2}[words[0]]
+        out.append(Call(first, count, rows, words[:n]))
+        count, rows, words = out[-1].count_after, out[-1].after, words[n:]
+    return out
+
+
+def do_memtable(name, *words):
+    out = []
+    for c in calls(*words):
+        if c.kind == "rewrite":
+            rows = [x for row in c.after for x in (":", *row)]
+            out.append(line("rewrite", name, c.number, c.replaced, c.count_after, *rows))
+        else:
+            out.append(line("fetch", name, c.number, c.place, c.length))
+    return out
+
+
+def step_words(t, k):
+    got = step(t, k)
+    if got is None:
+        return ["end"]
+    item, rows = got
+    return [*item_words(item), *[x for row in rows for x in (":", *row)], "."]
+
+
+def do_open(name, signature, count, b):
+    count = int(count, 16)
+    try:
+        t = read_body(data(b), int(signature, 16))
+    except Refused as why:
+        return [line("open", name, *["refused", why.number, why.item] * count)]
+    return [line("open", name, *[w for k in range(count) for w in step_words(t, k)])]
+
+
+def do_tail(name, *words):
+    where, b = tuple(int(x, 16) for x in words[:4]), data(words[4])
+    try:
+        got = next_row(b, *where)
+    except Refused as why:
+        return [line("tail", name, "refused", why.number, *where)]
+    if got is None:
+        return [line("tail", name, ".", *where)]
+    return [line("tail", name, ":", *got[0], *got[1])]
+
+
 DO = {
     "crc": do_crc, "number": do_number, "read": do_read, "big": do_big, "little": do_little, "header": do_header, "items": do_items,
     "footed": do_footed, "plain": do_plain, "whole": do_whole, "view": do_view, "status": do_status, "encode": do_encode,
+    "memtable": do_memtable, "open": do_open, "tail": do_tail,
 }

@@ -305,3 +305,77 @@ def status(item, store):
     if value[0] > 2:
         raise Refused(28)
     return item[0], ["begin", "middle", "end"][value[0]]
+
+
+# ---- stepping through a body ---------------------------------------------------------------------------------------------------------
+
+
+def step(t, k):
+    """What call number k on an accepted body hands out: an item and its rows, or none at the end."""
+    if k >= t.item_count:
+        return None
+    rows = [x[2] if x[1] == "entries" else 0 for x in t.items[:k + 1]]
+    return t.items[k], t.entries[sum(rows[:k]):sum(rows)]
+
+
+def next_row(b, at, total, index, left):
+    """The next of `left` rows, from the tail at a place of a body on, and what is then left; or none."""
+    if left == 0:
+        return None
+    r = Reader(b[:-4])
+    r.at = at
+    tail = r.number()
+    if tail > U32:
+        raise Refused(16)
+    if tail < total:
+        raise Refused(15)
+    return (index, total, tail - total), (r.at, tail, (index + 1) % 2**64, left - 1)
+
+
+# ---- rewriting locations -------------------------------------------------------------------------------------------------------------
+
+
+def last_fits(first, rows):
+    return not rows or first + len(rows) - 1 <= U64
+
+
+def check_table(first, count, rows):
+    """A row is a queue, A or R, a file number, and four numbers more."""
+    queues = [row[0] for row in rows]
+    if count > len(rows) or queues != ["R"] * count + ["A"] * (len(rows) - count) or not last_fits(first, rows):
+        raise Refused(26)
+
+
+def rewrite(first, count, rows, gate, incoming_first, incoming):
+    """How many rows are replaced, the count and the rows afterwards."""
+    check_table(first, count, rows)
+    if any(row[0] != "R" for row in incoming) or not last_fits(incoming_first, incoming):
+        raise Refused(27)
+    start = max(first, incoming_first)
+    end = min(first + len(rows), incoming_first + len(incoming))
+    if start >= end:
+        return 0, count, rows
+    place = start - first
+    if place > count:
+        raise Refused(24)
+    if gate is not None and place < count:
+        raise Refused(25)
+    replaced = 0
+    while start + replaced < end:
+        row = rows[place + replaced]
+        if row[0] == "A" if gate is None else row[1] > gate:
+            break
+        replaced += 1
+    skipped = start - incoming_first
+    after = rows[:place] + incoming[skipped:skipped + replaced] + rows[place + replaced:]
+    reached = place + replaced
+    return replaced, max(reached, count) if gate is None else reached, after
+
+
+def fetch(first, count, rows, gate):
+    """Place and length."""
+    check_table(first, count, rows)
+    n = 0
+    while count + n < len(rows) and rows[count + n][1] <= gate:
+        n += 1
+    return count, n

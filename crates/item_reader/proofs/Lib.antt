@@ -1,6 +1,5 @@
 pub mod Walking
 pub mod RawIn
-pub mod Loop
 pub mod Lent
 pub mod RowLaws
 pub mod ItemLaws

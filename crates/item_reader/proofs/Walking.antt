@@ -1,8 +1,6 @@
--- What the walks by hand share: the type of a local as the code has it, and a reader's type and machine value as `next` takes it.
+-- A reader's type and machine value as `next` takes it.
 -- Assumes nothing.
-use Prim.Native.Nat.{ℕ, zero, suc}
-use mathlib.Core.List.{List, [], _∷_}
-use mir.Syntax.{Ty, tyInt, tyBool, tyFloat, tyPtr, tyRef, tyArray, tyUnit, tyStruct, tyEnum, tyNamed, Tys, tnil, Local, local, named}
+use mir.Syntax.{Ty, tyInt, tyBool, tyFloat, tyPtr, tyRef, tyArray, tyUnit, tyStruct, tyEnum, tyNamed, Tys, tnil, named}
 use mir.Val.{Val}
 use base.Fml.{Lft}
 use denote.RattleType.{RattleType}
@@ -12,11 +10,6 @@ use denote.Struct.Laws as LL
 use Rattle.item_reader.specs.declared.ItemReader.{ItemReader}
 use Rattle.item_reader.proofs.ItemReader as T
 use Rattle.item_reader.proofs.ItemReader.Laws as T′
-
-abbrev pub tyAt : List Local → ℕ → Ty
-tyAt [] n = tyUnit
-tyAt (local τ h ∷ ls) zero = τ
-tyAt (local τ h ∷ ls) (suc n) = tyAt ls n
 
 -- the types of a struct's fields
 abbrev pub fieldsOf : Ty → Tys

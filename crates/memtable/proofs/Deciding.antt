@@ -1,15 +1,15 @@
 -- The answer of a rewrite by the ways through `decide`: a law for each.
 -- Assumes nothing.
-use mathlib.Core.Path.{_≡_, refl, sym, ap, _∙_}
-use Prim.Native.Nat.{ℕ, _+_, _-_, _<_, _≤_, max}
+use mathlib.Core.Path.{_≡_, ap, _∙_}
+use Prim.Native.Nat.{ℕ, _-_, _<_, _≤_, max}
 use native.Mathlib.Omega.{arith}
 use mathlib.Core.Bool.{Bool, true, false}
-use lib.Dec.{ltb, eqb}
+use lib.Dec.{eqb}
 use borrow.Author.Tests.{lt-ltb, le-ltb, eq-eqb, ne-eqb}
 use Rattle.memtable.specs.declared.Table.{Table}
 use Rattle.memtable.specs.declared.Gate.{Gate}
 use Rattle.memtable.specs.declared.Rewritten.{Rewritten}
-use Rattle.memtable.specs.Rewriting.{early, countAfter, unchanged, answered}
+use Rattle.memtable.specs.Rewriting.{unchanged, answered}
 
 -- the answer where rows are replaced
 abbrev moved : ℕ → ℕ → Rewritten

@@ -1,13 +1,12 @@
 -- Whether a table is well formed, and incoming rows are taken, by the ways through the functions that tell it from numbers.
 -- Assumes nothing.
-use mathlib.Core.Path.{_≡_, refl, sym, ap, _∙_}
+use mathlib.Core.Path.{_≡_, refl, sym}
 use Prim.Native.Nat.{ℕ, zero, suc, _+_, _-_, _<_, _≤_, _^_}
 use native.Mathlib.Omega.{arith}
-use mathlib.Core.Bool.{Bool, true, false, _&&_}
+use mathlib.Core.Bool.{Bool, true, false}
 use lib.Dec.{leb}
 use borrow.Author.Tests.{le-leb, lt-leb, leb-true, leb-false}
 use Rattle.memtable.specs.declared.Table.{Table}
-use Rattle.memtable.specs.declared.Fetched.{Fetched}
 use Rattle.memtable.specs.Table.{indexesFit}
 use Rattle.memtable.specs.Fetching.{fetched}
 use Rattle.memtable.specs.Private.{wellFormedBy, readyBy}

@@ -1,5 +1,4 @@
 pub mod Place
-pub mod Loop
 pub mod Machine
 pub mod Queues
 pub mod Runs

@@ -1,8 +1,6 @@
--- The machine's side of what the walks share: the row of a location, the machine values of the crate's types, and the type of a local.
+-- The machine's side of what the walks share: the row of a location, and the machine values of the crate's types.
 -- Assumes nothing.
-use Prim.Native.Nat.{ℕ, zero, suc}
-use mathlib.Core.List.{List, [], _∷_}
-use mir.Syntax.{Ty, Local, local, tyUnit}
+use mathlib.Core.List.{[], _∷_}
 use mir.Val.{Val}
 use denote.RattleType.{RattleType}
 use denote.Laws.{Is}
@@ -29,12 +27,6 @@ use Rattle.memtable.proofs.Fetched.Laws as Ft′
 
 abbrev pub R : RattleType
 R = T.the-row
-
--- the type of a local, as the code has it: antt compares a type's own `mir` with it at great length where the two were spelled by different tables
-abbrev pub tyAt : List Local → ℕ → Ty
-tyAt [] n = tyUnit
-tyAt (local τ h ∷ ls) zero = τ
-tyAt (local τ h ∷ ls) (suc n) = tyAt ls n
 
 abbrev pub valR : Location → Val
 valR = LL.val T.the-type T′.the-laws

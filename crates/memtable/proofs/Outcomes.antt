@@ -1,23 +1,20 @@
 -- The two outcomes of a rewrite: the table is kept, or the run is replaced. And the rows afterwards, around the run.
 -- Assumes nothing.
-use mathlib.Core.Path.{_≡_, refl, sym, ap, _∙_}
-use Prim.Native.Nat.{ℕ, zero, suc, _+_, _-_, _<_, _≤_, min}
-use native.Mathlib.Nat.{zero-add}
+use mathlib.Core.Path.{_≡_, refl}
+use Prim.Native.Nat.{ℕ, zero, suc, _+_, _-_, _≤_, min}
 use native.Mathlib.Omega.{arith}
-use mathlib.Core.Bool.{Bool, true, false, not, cond, _&&_}
-use mathlib.Core.List.{List, [], _∷_, _++_}
+use mathlib.Core.Bool.{Bool, true, false, not, cond}
+use mathlib.Core.List.{List}
 use lib.Dec.{ltb, eqb, leb}
-use lib.ListN.{length, take, drop, length-take, length-drop}
-use lib.Seq.{paste, paste-zero, length-paste, take-paste, drop-paste, take-add, drop-drop, take-take, take-append-le, length-take-le}
-use borrow.Author.Tests.{not-false, eqb-false, ltb-false, leb-true, leb-false, le-leb}
+use lib.ListN.{length, drop, length-drop}
+use lib.Seq.{paste}
+use borrow.Author.Tests.{not-false, eqb-false, ltb-false, leb-true, leb-false}
 use Rattle.pipe_log.specs.declared.Location.{Location}
 use Rattle.memtable.specs.declared.Table.{Table}
 use Rattle.memtable.specs.declared.Gate.{Gate}
 use Rattle.memtable.specs.declared.Rewritten.{Rewritten}
-use Rattle.memtable.specs.Rows.{inAppend, inRewrite, runOf}
-use Rattle.memtable.specs.Table.{all, indexesFit, wellFormed, ready}
+use Rattle.memtable.specs.Table.{wellFormed, ready}
 use Rattle.memtable.specs.Rewriting.{stopOf, startPlace, startFrom, overlapLength, runLength, early, countAfter, unchanged, answered, rewriteOf, rowsAfter}
-use Rattle.memtable.proofs.Queues.{both, together, all-join, all-take, all-drop}
 use Rattle.memtable.proofs.RunLaws.{run-take-le}
 
 pub data Outcome (good isReady : Bool) (t : Table) (place overlap run : ℕ) (gate : Gate) : Rewritten → Type 0 where

@@ -1,16 +1,16 @@
 -- Rows with a run replaced: what is in which queue, and how many.
 -- Assumes nothing.
-use mathlib.Core.Path.{_≡_, refl, sym, ap, _∙_}
-use Prim.Native.Nat.{ℕ, _+_, _-_, _≤_}
+use mathlib.Core.Path.{_≡_, sym, ap, _∙_}
+use Prim.Native.Nat.{ℕ, _+_, _≤_}
 use native.Mathlib.Omega.{arith}
 use mathlib.Core.Bool.{Bool, true}
-use mathlib.Core.List.{List, _++_, append-assoc}
+use mathlib.Core.List.{List, _++_}
 use lib.ListN.{length, take, drop, length-drop, take-append-drop}
 use lib.Seq.{paste, length-paste, take-paste, drop-paste, take-add, drop-drop, take-append-le, take-take, length-take-le}
 use Rattle.pipe_log.specs.declared.Location.{Location}
 use Rattle.memtable.specs.Rows.{inAppend, inRewrite, rowsIn}
 use Rattle.memtable.specs.Table.{all}
-use Rattle.memtable.proofs.Queues.{all-join, all-take, rowsIn-join, rowsIn-all, none-rewrite, none-append}
+use Rattle.memtable.proofs.Queues.{all-join, rowsIn-join, rowsIn-all, none-rewrite, none-append}
 
 -- k rows of xs, from p on, replaced by the first k of src
 module _ (xs : List Location) (p : ℕ) (src : List Location) (k : ℕ) (in-rows : p + k ≤ length xs) (in-source : k ≤ length src) where

@@ -1,7 +1,7 @@
 -- What the walk of a rewrite puts together: the run lies in both lists, and the numbers are those of the definition.
 -- Assumes nothing.
 use mathlib.Core.Path.{_≡_, refl, sym, ap, _∙_}
-use Prim.Native.Nat.{ℕ, _+_, _-_, _<_, _≤_, min}
+use Prim.Native.Nat.{ℕ, _+_, _-_, _≤_}
 use native.Mathlib.Nat.{le-refl}
 use native.Mathlib.Omega.{arith}
 use mathlib.Core.Bool.{Bool, true, false, not, cond}
@@ -18,7 +18,7 @@ use Rattle.memtable.specs.declared.Overlap.{Overlap}
 use Rattle.memtable.specs.declared.Rewritten.{Rewritten}
 use Rattle.memtable.specs.Rows.{runOf}
 use Rattle.memtable.specs.Table.{wellFormed, ready}
-use Rattle.memtable.specs.Rewriting.{stopOf, startPlace, startFrom, overlapLength, runLength, early, countAfter, unchanged, answered, rewriteOf, rowsAfter}
+use Rattle.memtable.specs.Rewriting.{stopOf, startPlace, startFrom, overlapLength, runLength, early, answered, rewriteOf, rowsAfter}
 use Rattle.memtable.specs.Private.{readyBy, overlapAt, overlapOf}
 use Rattle.memtable.proofs.Overlaps.{over-le, over-rows, over-incoming}
 use Rattle.memtable.proofs.RunLaws.{run-take-le}

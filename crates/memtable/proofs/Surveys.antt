@@ -1,13 +1,13 @@
 -- What the walks learn from scans: whether a table is well formed, and whether incoming rows are taken.
 -- Assumes nothing.
 use mathlib.Core.Path.{_≡_, refl, sym, ap, _∙_}
-use Prim.Native.Nat.{ℕ, zero, suc, _+_, _-_, _<_, _≤_, min}
+use Prim.Native.Nat.{ℕ, suc, _+_, _-_, _<_, _≤_, min}
 use native.Mathlib.Nat.{zero-add}
 use native.Mathlib.Omega.{arith}
 use mathlib.Core.Bool.{Bool, true, false, cond, _&&_}
 use mathlib.Core.List.{List, [], _∷_}
 use lib.Dec.{leb, leb·suc-suc, leb·suc-zero}
-use lib.ListN.{length, take, drop, length-take, length-drop}
+use lib.ListN.{length, take, drop, length-drop}
 use lib.Seq.{take-all, length-take-le}
 use borrow.Author.Tests.{le-leb, lt-leb, leb-true, leb-false}
 use Rattle.pipe_log.specs.declared.Location.{Location}
@@ -15,7 +15,7 @@ use Rattle.pipe_log.specs.declared.LogQueue.{LogQueue}
 use Rattle.memtable.specs.declared.Table.{Table}
 use Rattle.memtable.specs.declared.Stop.{Stop}
 use Rattle.memtable.specs.Rows.{isAppend, isRewrite, inAppend, inRewrite, runOf}
-use Rattle.memtable.specs.Table.{all, indexesFit, wellFormed, ready}
+use Rattle.memtable.specs.Table.{all, wellFormed, ready}
 use Rattle.memtable.specs.declared.Fetched.{Fetched}
 use Rattle.memtable.specs.Fetching.{fetched, fetchOf}
 use Rattle.memtable.specs.Private.{wellFormedBy, readyBy}

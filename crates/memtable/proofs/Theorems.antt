@@ -1,15 +1,14 @@
 -- What is promised of rewriting locations and of the fetch before a gate, in document 01's words.
 -- Assumes nothing.
 use mathlib.Core.Path.{_≡_, refl, sym, ap, _∙_}
-use Prim.Native.Nat.{ℕ, zero, _+_, _-_, _<_, _≤_, _^_, min, max}
+use Prim.Native.Nat.{ℕ, _+_, _-_, _<_, _≤_, _^_}
 use native.Mathlib.Nat.{add-zero}
 use native.Mathlib.Omega.{arith}
-use mathlib.Core.Bool.{Bool, true, false, _&&_}
+use mathlib.Core.Bool.{true}
 use mathlib.Core.List.{List, [], _∷_}
-use lib.Dec.{leb, ltb, eqb}
-use lib.ListN.{length, take, drop, length-take, length-drop}
-use lib.Seq.{paste, paste-zero, take-take, take-add, drop-drop, take-all}
-use borrow.Author.Tests.{leb-true, le-leb, le-ltb, ltb-false, eq-eqb, ne-eqb, eqb-true, eqb-false}
+use lib.ListN.{length, take, drop}
+use lib.Seq.{paste, paste-zero, take-take, drop-drop}
+use borrow.Author.Tests.{ltb-false}
 use denote.Ref.{now}
 use contract.Lifetimes.{Lfts}
 use denote.Triple.Clauses.{AtExit}
@@ -22,17 +21,17 @@ use Rattle.memtable.specs.declared.Stop.{Stop}
 use Rattle.memtable.specs.declared.Rewritten.{Rewritten}
 use Rattle.memtable.specs.declared.Fetched.{Fetched}
 use Rattle.memtable.specs.Rows.{inAppend, inRewrite, runOf, rowsIn}
-use Rattle.memtable.specs.Table.{all, indexesFit, wellFormed, ready}
-use Rattle.memtable.specs.Rewriting.{stopOf, startPlace, startFrom, overlapLength, early, countAfter, unchanged, answered, rewriteOf, rowsAfter}
+use Rattle.memtable.specs.Table.{all, wellFormed, ready}
+use Rattle.memtable.specs.Rewriting.{stopOf, startPlace, startFrom, early, countAfter, answered, rewriteOf, rowsAfter}
 use Rattle.memtable.specs.Fetching.{fetched, fetchOf}
 use Rattle.memtable.proofs.rewrite as rw-fn
-use Rattle.memtable.proofs.Queues.{both, together, all-right, all-take, all-drop}
+use Rattle.memtable.proofs.Queues.{all-take, all-drop}
 use Rattle.memtable.proofs.RunLaws.{run-over}
 use Rattle.memtable.proofs.Surveys.{formed-count}
 use Rattle.memtable.proofs.Tables.{formed-parts, formed-of, ready-all, ready-of, run-short, rest-rewrite, reaches, no-farther, larger, later, none-more}
 use Rattle.memtable.proofs.Fetches.{fetched-is, fetched-formed, whole-run}
-use Rattle.memtable.proofs.Pasting.{before-same, behind-same, length-same, front-is, rewrite-front, append-back, append-falls, rewrite-rises}
-use Rattle.memtable.proofs.Outcomes.{Outcome, kept, done, place, source, overlap, run, Outcomes, outcome, after-is, run-in-rows, run-in-source}
+use Rattle.memtable.proofs.Pasting.{before-same, behind-same, length-same, rewrite-front, append-back, append-falls, rewrite-rises}
+use Rattle.memtable.proofs.Outcomes.{kept, done, place, source, overlap, run, Outcomes, outcome, after-is, run-in-rows, run-in-source}
 use Rattle.memtable.proofs.Determined.{Rewrote}
 
 -- "An empty table is well formed for any first index when its count is 0."

@@ -17,11 +17,18 @@
 //                                                                 the table of a body without footer, edited (edits.rt), then written by
 //                                                                 the writer of a body or a whole batch, keys checked or unchecked, into
 //                                                                 so much room, and read back under the other signature
+//     memtable NAME FIRST COUNT ROWS CALLS                        a table of locations (locations.rt), and calls on it, each on what the
+//                                                                 one before it left: rewrite GATE FIRST ROWS, the gate `-` for none,
+//                                                                 and fetch GATE
+//     open NAME SIGNATURE CALLS BYTES                             a body with its footer, stepped through by so many calls
+//     tail NAME AT TOTAL INDEX LEFT BYTES                         the next row of an item of such a body, from that place on
 use crate::bodies;
 use crate::headers;
 use crate::input;
 use crate::numbers;
+use crate::rewrites;
 use crate::statuses;
+use crate::steps;
 use crate::sums;
 use crate::views;
 use crate::writes;
@@ -58,6 +65,9 @@ fn line(line: &[u8]) {
         b'v' => views::case(line),
         b's' => statuses::case(line),
         b'e' => writes::case(line),
+        b'm' => rewrites::case(line),
+        b'o' => steps::case(line),
+        b't' => steps::tail(line),
         _ => {}
     }
 }

@@ -21,23 +21,24 @@ use log_item::Op;
 use log_item::Span;
 use refusal::Refusal;
 
-// Up to three edits, from word 9 on.
-pub(crate) fn edited(line: &[u8], table: LogItemBatch) -> LogItemBatch {
-    let once = edit(line, 9, 10, 11, table);
-    let twice = edit(line, 12, 13, 14, once);
-    edit(line, 15, 16, 17, twice)
+// Up to three edits, from word 7 on.
+pub(crate) fn edited(words: &[u8], table: LogItemBatch) -> LogItemBatch {
+    let first = input::after(words, 7);
+    let second = input::after(first, 3);
+    let third = input::after(second, 3);
+    edit(third, edit(second, edit(first, table)))
 }
 
-// The edit whose three words are these; none where the line ends before them.
-fn edit(line: &[u8], what: usize, row: usize, value: usize, table: LogItemBatch) -> LogItemBatch {
-    let letter = input::letter(line, what);
+// The edit that the first three words name; none where there are no words.
+fn edit(words: &[u8], table: LogItemBatch) -> LogItemBatch {
+    let letter = input::kind(words);
     if letter == b' ' {
         return table;
     }
     make(
         letter,
-        input::number(line, row) as usize,
-        input::number(line, value),
+        input::number(words, 1) as usize,
+        input::number(words, 2),
         table,
     )
 }

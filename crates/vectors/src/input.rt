@@ -6,8 +6,9 @@ use crate::text;
 pub(crate) fn find(bytes: &[u8], at: usize, b: u8) -> usize
     ensures { λ r. ⌜ at ≤ r ⌝ }
 {
+    let n = bytes.len();
     let mut i = at;
-    while i < bytes.len() {
+    while i < n {
         if bytes[i] == b {
             return i;
         }
@@ -27,7 +28,8 @@ pub(crate) fn part(bytes: &[u8], start: usize, end: usize) -> &[u8] {
     &bytes[start..end]
 }
 
-pub(crate) fn word(line: &[u8], k: usize) -> &[u8] {
+// What stands from a word on.
+pub(crate) fn after(line: &[u8], k: usize) -> &[u8] {
     let mut at = 0;
     let mut left = k;
     while 0 < left {
@@ -37,7 +39,12 @@ pub(crate) fn word(line: &[u8], k: usize) -> &[u8] {
         }
         left -= 1;
     }
-    part(line, at, find(line, at, b' '))
+    part(line, at, line.len())
+}
+
+pub(crate) fn word(line: &[u8], k: usize) -> &[u8] {
+    let words = after(line, k);
+    part(words, 0, find(words, 0, b' '))
 }
 
 // The first letter of a line, by which its kind is told; a space where the line is empty.
@@ -57,7 +64,11 @@ pub(crate) fn start(line: &[u8]) {
 }
 
 pub(crate) fn number(line: &[u8], k: usize) -> u64 {
-    let digits = word(line, k);
+    value(word(line, k))
+}
+
+// The number that these digits spell.
+pub(crate) fn value(digits: &[u8]) -> u64 {
     let mut n: u64 = 0;
     let mut i = 0;
     while i < digits.len() {

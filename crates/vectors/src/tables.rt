@@ -74,14 +74,14 @@ fn entries(rows: [EntryIndex; 1024], count: usize) {
     }
 }
 
-fn entry(row: EntryIndex) {
+pub(crate) fn entry(row: EntryIndex) {
     text::word(b":");
     text::number(row.index);
     text::number(row.entry_offset as u64);
     text::number(row.entry_len as u64);
 }
 
-fn item(item: LogItem) {
+pub(crate) fn item(item: LogItem) {
     text::word(b"|");
     text::number(item.raft_group_id);
     let content = item.content;

@@ -41,7 +41,13 @@ pub(crate) fn bytes(bytes: &[u8]) {
 }
 
 fn one_byte(b: u8) {
-    io::print_hex(STDOUT_FILENO, b as u64, 2);
+    let digits = [digit(b / 16), digit(b % 16)];
+    io::write_all(STDOUT_FILENO, &digits);
+}
+
+// The digit of a value below 16.
+fn digit(n: u8) -> u8 {
+    if n < 10 { b'0' + n } else { b'a' + n % 16 - 10 }
 }
 
 // The number and the item.

@@ -1,5 +1,5 @@
 // Tables written as bodies and as whole batches: the answer, what was written and what stands behind it in the buffer lent, and the bytes
-// read back. A table comes from a body, and may be edited to one that no reading gives.
+// read back. A table comes from a body, and may be edited to one that no reading gives. `words` is what a line has after the name.
 use crate::bodies;
 use crate::edits;
 use crate::input;
@@ -13,45 +13,46 @@ pub(crate) fn case(line: &[u8]) {
     let mut body = [0u8; 2048];
     let mut content = [0u8; 64];
     let mut out = [170u8; 2048];
-    let room = input::number(line, 6) as usize;
-    let m = input::bytes(line, 7, &mut content);
-    let n = input::bytes(line, 8, &mut body);
+    let words = input::after(line, 2);
+    let room = input::number(words, 4) as usize;
+    let m = input::bytes(words, 5, &mut content);
+    let n = input::bytes(words, 6, &mut body);
     let r = write(
-        line,
+        words,
         text::front(&body, n),
         text::front(&content, m),
         &mut out,
         room,
     );
     answer(line, r, text::front(&out, room));
-    back(line, text::front(&out, r.length));
+    back(line, words, text::front(&out, r.length));
 }
 
 // Writes the table of a body, edited, into the first `room` bytes of out, or into all where there are fewer.
-fn write(line: &[u8], body: &[u8], content: &[u8], out: &mut [u8], room: usize) -> Encoded {
-    let table = edits::edited(line, item_batch::read_items(body));
+fn write(words: &[u8], body: &[u8], content: &[u8], out: &mut [u8], room: usize) -> Encoded {
+    let table = edits::edited(words, item_batch::read_items(body));
     if room < out.len() {
-        encode(line, table, body, content, &mut out[..room])
+        encode(words, table, body, content, &mut out[..room])
     } else {
-        encode(line, table, body, content, out)
+        encode(words, table, body, content, out)
     }
 }
 
 fn encode(
-    line: &[u8],
+    words: &[u8],
     table: LogItemBatch,
     store: &[u8],
     content: &[u8],
     out: &mut [u8],
 ) -> Encoded {
-    let signature = input::short(line, 4);
-    if input::letter(line, 2) == b'w' {
-        if input::letter(line, 3) == b'c' {
+    let signature = input::short(words, 2);
+    if input::letter(words, 0) == b'w' {
+        if input::letter(words, 1) == b'c' {
             LogBatch::encode(table, store, content, signature, out)
         } else {
             LogBatch::encode_unchecked(table, store, content, signature, out)
         }
-    } else if input::letter(line, 3) == b'c' {
+    } else if input::letter(words, 1) == b'c' {
         LogItemBatch::encode(table, store, signature, out)
     } else {
         LogItemBatch::encode_unchecked(table, store, signature, out)
@@ -70,10 +71,10 @@ fn answer(line: &[u8], r: Encoded, out: &[u8]) {
 }
 
 // What was written, where anything was, read under the second signature.
-fn back(line: &[u8], bytes: &[u8]) {
+fn back(line: &[u8], words: &[u8], bytes: &[u8]) {
     if bytes.len() == 0 {
         return;
     }
-    let table = bodies::read(input::letter(line, 2), bytes, input::short(line, 5));
+    let table = bodies::read(input::letter(words, 0), bytes, input::short(words, 3));
     tables::line(b"back", input::word(line, 1), table);
 }

@@ -49,10 +49,10 @@ use denote.Exit.{yes}
 use Rattle.item_reader.specs.declared.ItemReader.{ItemReader}
 use Rattle.item_reader.specs.declared.Next.{Next}
 use Rattle.item_reader.specs.Reader.{opened, stepFrom, after, afterCalls, nthOf}
-use Rattle.item_reader.proofs.Loop.{holds, fails, counted}
+use Rattle.by_hand.proofs.Loop.{holds, fails, counted}
 use Rattle.item_reader.proofs.Lent as lent
 use Rattle.item_reader.proofs.Walking as walking
-use Rattle.item_reader.proofs.Walking.{tyAt}
+use Rattle.by_hand.proofs.Locals.{tyAt}
 use Rattle.item_reader.proofs.ItemReader as T
 use Rattle.item_reader.proofs.ItemReader.Laws as T′
 use Rattle.item_reader.proofs.Next as O

@@ -58,7 +58,8 @@ use Rattle.memtable.proofs.Table as Tb
 use Rattle.memtable.proofs.Table.Laws as Tb′
 use Rattle.memtable.proofs.Fetched as Ft
 use Rattle.memtable.proofs.Fetched.Laws as Ft′
-use Rattle.memtable.proofs.Machine.{R, tyAt, valT, valF}
+use Rattle.by_hand.proofs.Locals.{tyAt}
+use Rattle.memtable.proofs.Machine.{R, valT, valF}
 use Rattle.location_table.proofs.used as us
 use Rattle.location_table.proofs.used.Symbol as us-def
 use Rattle.location_table.proofs.used.Symbol.{name as #used}

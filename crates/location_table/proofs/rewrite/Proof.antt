@@ -62,7 +62,8 @@ use Rattle.memtable.proofs.Gate as G
 use Rattle.memtable.proofs.Gate.Laws as G′
 use Rattle.memtable.proofs.Rewritten as D
 use Rattle.memtable.proofs.Rewritten.Laws as D′
-use Rattle.memtable.proofs.Machine.{R, tyAt, valT, valD}
+use Rattle.by_hand.proofs.Locals.{tyAt}
+use Rattle.memtable.proofs.Machine.{R, valT, valD}
 use Rattle.location_table.proofs.used as us
 use Rattle.location_table.proofs.used.Symbol as us-def
 use Rattle.location_table.proofs.used.Symbol.{name as #used}

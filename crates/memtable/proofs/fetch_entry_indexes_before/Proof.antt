@@ -42,7 +42,6 @@ use denote.Triple.Walked.{says, Stays, stay-none, walkOf, goes-none, Walks, ends
 use denote.Struct.Laws as LL
 use denote.Enum.Laws as EL
 use Rattle.pipe_log.specs.declared.Location.{Location}
-use Rattle.pipe_log.proofs.Location as T
 use Rattle.memtable.specs.declared.Table.{Table}
 use Rattle.memtable.specs.declared.Stop.{Stop}
 use Rattle.memtable.specs.declared.Fetched.{Fetched}
@@ -51,7 +50,8 @@ use Rattle.memtable.specs.Table.{wellFormed}
 use Rattle.memtable.specs.Fetching.{fetched, fetchOf}
 use Rattle.memtable.proofs.Place.{cut-le, on-le}
 use Rattle.memtable.proofs.Surveys.{fetched-by}
-use Rattle.memtable.proofs.Machine.{R, tyAt, valT, valS}
+use Rattle.by_hand.proofs.Locals.{tyAt}
+use Rattle.memtable.proofs.Machine.{R, valT, valS}
 use Rattle.memtable.proofs.Table as Tb
 use Rattle.memtable.proofs.Table.Laws as Tb′
 use Rattle.memtable.proofs.Stop as S

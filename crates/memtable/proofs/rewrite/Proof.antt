@@ -52,7 +52,6 @@ use lib.Dec.{T as Holds}
 use denote.Struct.Laws as LL
 use denote.Enum.Laws as EL
 use Rattle.pipe_log.specs.declared.Location.{Location}
-use Rattle.pipe_log.proofs.Location as T
 use Rattle.memtable.specs.declared.Table.{Table}
 use Rattle.memtable.specs.declared.Gate.{Gate}
 use Rattle.memtable.specs.declared.Stop.{Stop}
@@ -65,7 +64,8 @@ use Rattle.memtable.specs.Private.{readyBy, overlapOf}
 use Rattle.memtable.proofs.Place.{from-0, on-le}
 use Rattle.memtable.proofs.Overlaps.{over-le, over-rows}
 use Rattle.memtable.proofs.Rewrites.{run-fits, rewritten-by}
-use Rattle.memtable.proofs.Machine.{R, tyAt, valT, valO, valD, valS, is-append}
+use Rattle.by_hand.proofs.Locals.{tyAt}
+use Rattle.memtable.proofs.Machine.{R, valT, valO, valD, valS, is-append}
 use Rattle.memtable.proofs.Table as Tb
 use Rattle.memtable.proofs.Table.Laws as Tb′
 use Rattle.memtable.proofs.Gate as G

@@ -55,7 +55,8 @@ use Rattle.item_reader.specs.declared.Step.{Step}
 use Rattle.item_reader.specs.declared.Next.{Next}
 use Rattle.item_reader.specs.Reader.{stepFrom, moved}
 use Rattle.item_reader.proofs.RawIn.{look-in-raw}
-use Rattle.item_reader.proofs.Walking.{tyAt, fieldsOf, α, B, D, L, val as valB}
+use Rattle.by_hand.proofs.Locals.{tyAt}
+use Rattle.item_reader.proofs.Walking.{fieldsOf, α, B, D, L, val as valB}
 use Rattle.item_reader.proofs.ItemReader as T
 use Rattle.item_reader.proofs.ItemReader.Laws as T′
 use Rattle.item_reader.proofs.Step as S

@@ -47,7 +47,7 @@ use Rattle.refusal.proofs.Refusal.Laws as Rf′
 use Rattle.item_reader.specs.declared.ItemReader.{ItemReader}
 use Rattle.item_reader.specs.declared.Opening.{Opening}
 use Rattle.item_reader.specs.Reader.{openingOf, before}
-use Rattle.item_reader.proofs.Walking.{tyAt}
+use Rattle.by_hand.proofs.Locals.{tyAt}
 use Rattle.item_reader.proofs.ItemReader as T
 use Rattle.item_reader.proofs.ItemReader.Laws as T′
 use Rattle.item_reader.proofs.Opening as O

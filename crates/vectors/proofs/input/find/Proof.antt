@@ -1,16 +1,15 @@
 -- `vectors::input::find` meets its contract: the place never falls.
 -- Assumes nothing.
 use Prim.Native.Nat.{_≤_, _-_}
-use lib.ListN.{length}
 use borrow.Author.Needs.{needs}
 use Rattle.vectors.proofs.input.find.Statement.{statement}
 use Rattle.vectors.proofs.input.find.Tie as tie
 
 abbrev Inv-loop : tie.InvT-loop
-Inv-loop bytes at b i₀ i = at ≤ i
+Inv-loop bytes at b n i₀ i = at ≤ i
 
 abbrev μ-loop : tie.MeasureT-loop
-μ-loop bytes at b i₀ i = length bytes - i
+μ-loop bytes at b n i₀ i = n - i
 
 loop-holds : tie.Need-loop-holds Inv-loop μ-loop
 loop-holds c = search needs

@@ -1,19 +1,16 @@
--- `vectors::input::number` is safe and ends.
+-- `vectors::input::value` is safe and ends.
 -- Assumes nothing.
 use Prim.Native.Nat.{_≤_, _-_}
 use lib.ListN.{length}
 use borrow.Author.Needs.{needs}
-use Rattle.vectors.proofs.input.number.Statement.{statement}
-use Rattle.vectors.proofs.input.number.Tie as tie
+use Rattle.vectors.proofs.input.value.Statement.{statement}
+use Rattle.vectors.proofs.input.value.Tie as tie
 
 abbrev Inv-loop : tie.InvT-loop
-Inv-loop line k digits n₀ i₀ n i = i ≤ length digits
+Inv-loop digits n₀ i₀ n i = i ≤ length digits
 
 abbrev μ-loop : tie.MeasureT-loop
-μ-loop line k digits n₀ i₀ n i = length digits - i
-
-word-requires : tie.Need-word-requires Inv-loop μ-loop
-word-requires c κs = search needs
+μ-loop digits n₀ i₀ n i = length digits - i
 
 loop-holds : tie.Need-loop-holds Inv-loop μ-loop
 loop-holds c = search needs
@@ -36,13 +33,12 @@ loop-again c = search needs
 returns : tie.Need-returns Inv-loop μ-loop
 returns c = search needs
 
-pub number-spec : {M : Type 1} → statement M
-number-spec =
+pub value-spec : {M : Type 1} → statement M
+value-spec =
     tie.close
     (tie.spec
     Inv-loop
     μ-loop
-    word-requires
     loop-holds
     shared-slice-read-digit
     digit-requires

@@ -1,9 +1,9 @@
--- `vectors::input::word` is safe and ends.
+-- `vectors::input::after` is safe and ends.
 -- Assumes nothing.
 use Prim.Native.Nat.{_≤_}
 use borrow.Author.Needs.{needs}
-use Rattle.vectors.proofs.input.word.Statement.{statement}
-use Rattle.vectors.proofs.input.word.Tie as tie
+use Rattle.vectors.proofs.input.after.Statement.{statement}
+use Rattle.vectors.proofs.input.after.Tie as tie
 
 abbrev Inv-loop : tie.InvT-loop
 Inv-loop line k at₀ left₀ at left = left ≤ k
@@ -29,17 +29,14 @@ loop-less c = search needs
 loop-again : tie.Need-loop-again Inv-loop μ-loop
 loop-again c = search needs
 
-find-requires-2 : tie.Need-find-requires-2 Inv-loop μ-loop
-find-requires-2 c κs = search needs
-
 part-requires : tie.Need-part-requires Inv-loop μ-loop
 part-requires c κs = search needs
 
 returns : tie.Need-returns Inv-loop μ-loop
 returns c = search needs
 
-pub word-spec : {M : Type 1} → statement M
-word-spec =
+pub after-spec : {M : Type 1} → statement M
+after-spec =
     tie.close
     (tie.spec
     Inv-loop
@@ -50,6 +47,5 @@ word-spec =
     sub-left
     loop-less
     loop-again
-    find-requires-2
     part-requires
     returns)

@@ -1,0 +1,1 @@
+// What proofs by hand share, in proofs/. There is no code here.
