@@ -1,0 +1,53 @@
+# What the scripts of compare/ share: where the oracle and the library are, or what is missing and how to get it.
+
+fail() {
+    printf '%s\n' "$*" >&2
+    exit 2
+}
+
+# Sets oracle to the program of a build (debug or release), and crate to the folder of its sources: from $built, or built in target/oracle.
+find_oracle() {
+    if [ -z "$built" ]; then
+        [ -x "$sources/build.sh" ] || fail "missing: the oracle (the real crate's code behind lines).
+There is no build.sh in $sources.
+Give its folder with --oracle FOLDER, or one that is built with --built FOLDER (it holds debug/oracle and release/oracle)."
+        command -v cargo >/dev/null || fail "missing: cargo and rustc, with which the oracle and the comparison are built"
+        built=$root/target/oracle
+        if [ ! -x "$built/debug/oracle" ] || [ ! -x "$built/release/oracle" ]; then
+            echo "building the oracle in target/oracle" >&2
+            mkdir -p "$built"
+            "$sources/build.sh" "$built" >"$built/build.log" 2>&1 || fail "the oracle did not build; the end of target/oracle/build.log:
+$(tail -5 "$built/build.log")
+Where crates are missing: run as root '$sources/build.sh apt FOLDER' (Debian 12), then give --built FOLDER."
+        fi
+    fi
+    oracle=$built/$1/oracle
+    [ -x "$oracle" ] || fail "missing: $oracle"
+}
+
+# Sets RAFT_LOG_LIB to the folder of libraft_log.a, in which every function of raft_log.h is found: one that the library does not have is a
+# stub there, which the comparison counts as missing.
+find_library() {
+    if [ -z "${RAFT_LOG_LIB:-}" ]; then
+        command -v rt >/dev/null || fail "missing: rt, the command of the Rattle kit, with which the library is built"
+        (cd "$root" && rt staticlib raft_log) || fail "the library is not proved, so it was not built"
+        RAFT_LOG_LIB=$root/target/staticlib
+    fi
+    library=$RAFT_LOG_LIB/libraft_log.a
+    [ -f "$library" ] || fail "missing: $library"
+    header=${RAFT_LOG_INCLUDE:-$root}/raft_log.h
+    [ -f "$header" ] || fail "missing: $header"
+    nm "$library" 2>/dev/null | awk '$2 == "T" { print $3 }' | sort -u >"$root/target/have.txt"
+    grep -o 'raft_log_[a-z0-9_]*(' "$header" | tr -d '(' | sort -u | comm -23 - "$root/target/have.txt" >"$root/target/lack.txt"
+    if [ -s "$root/target/lack.txt" ]; then
+        mkdir -p "$root/target/stubs"
+        sed 's/.*/unsigned &(void) { return 4294967295u; }/' "$root/target/lack.txt" >"$root/target/stubs/stubs.c"
+        cc -c "$root/target/stubs/stubs.c" -o "$root/target/stubs/stubs.o"
+        cp "$library" "$root/target/stubs/libraft_log.a"
+        chmod u+w "$root/target/stubs/libraft_log.a"
+        ar r "$root/target/stubs/libraft_log.a" "$root/target/stubs/stubs.o" 2>/dev/null
+        RAFT_LOG_LIB=$root/target/stubs
+        sed 's/^/not in the library: /' "$root/target/lack.txt"
+    fi
+    export RAFT_LOG_LIB
+}
