@@ -1,4 +1,4 @@
--- What a `&[u8]` says of its list.
+-- What a `&[u8]` is: numbers below 256.
 -- Assumes nothing.
 use Prim.Native.Nat.{ℕ, _<_}
 use mathlib.Core.List.{List}

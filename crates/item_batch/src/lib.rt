@@ -1,4 +1,4 @@
-// The items of a batch in a table, and reading a body into it or without it. From log_batch.rs, LogItemBatch.
+// The items of a batch in a table: reading a body into it or without it, and writing it as a body. From log_batch.rs, LogItemBatch.
 ghost use mathlib.Core.Path.{_≡_};
 ghost use Prim.Native.Nat.{_-_};
 ghost use lib.ListN.{length};

@@ -22,7 +22,7 @@ use log_item::TailRead;
 use refusal::Refusal;
 
 // Where the rows of an item stand that are still to be read: the place of the next tail, the total before it, the index of its entry,
-// and how many there are.
+// and how many there are. Where none is left the index names no entry: it is the one after the last, which may have come round to 0.
 pub struct EntryRows {
     pub at: usize,
     pub total: u32,

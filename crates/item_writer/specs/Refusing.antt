@@ -1,4 +1,4 @@
--- Which refusal a writer gives an item: the checks in the order of document 01, each with its number; 0 is none.
+-- Which refusal a writer gives an item, but for 16: the checks in the order of document 01, each with its number; 0 is none.
 -- Assumes nothing.
 use Prim.Native.Nat.{ℕ, _+_}
 use mathlib.Core.Bool.{Bool, true, cond, _&&_}
@@ -12,7 +12,7 @@ use Rattle.log_item.specs.declared.EntryIndexes.{EntryIndexes}
 use Rattle.log_item.specs.declared.LogItemContent.{LogItemContent}
 use Rattle.log_item.specs.declared.LogItemContent.the-variants as contents
 
--- 14, 13, 17: `used` rows are behind, of `rows` that are lent
+-- 14, 13, 17: `used` rows are behind, of `rows` that are lent. A first index is below 2^64, so that n = 0 is never a 17
 unfoldable pub entriesRefusal : ℕ → ℕ → EntryIndexes → ℕ
 entriesRefusal used rows e =
     cond (ltb 1024 (used + e .count)) 14

@@ -62,7 +62,7 @@ pub fn measure(item: LogItem, store: &[u8], checked: bool, used: usize, rows: us
     }
 }
 
-// Writes an item up to its tails at a place of out.
+// Writes an item up to its tails at a place of out. NoRoom also where a span lies outside the store, which is a 13 to `measure` and `encode`.
 pub fn encode_head(item: LogItem, store: &[u8], out: &mut [u8], at: usize) -> Wrote
     ensures { λ r. ⌜ (r ≡ wroteIf (contentInside (now (store .entry)) (item .content)) (now (out .entry)) at (headBytes (now (store .entry)) item)) × (now (out .exit) ≡ placedIf (contentInside (now (store .entry)) (item .content)) (now (out .entry)) at (headBytes (now (store .entry)) item)) ⌝ }
 {
@@ -86,7 +86,7 @@ pub fn encode_command(c: Command, out: &mut [u8], at: usize) -> Wrote
     Wrote::Next(put_command(c, out, at))
 }
 
-// Writes an op, its key and the content of a put at a place of out.
+// Writes an op, its key and the content of a put at a place of out. NoRoom also where a span lies outside the store.
 pub fn encode_key_value(kv: KeyValue, store: &[u8], out: &mut [u8], at: usize) -> Wrote
     ensures { λ r. ⌜ (r ≡ wroteIf (opInside (now (store .entry)) (kv .key) (kv .op)) (now (out .entry)) at (opBytes (now (store .entry)) (kv .key) (kv .op))) × (now (out .exit) ≡ placedIf (opInside (now (store .entry)) (kv .key) (kv .op)) (now (out .entry)) at (opBytes (now (store .entry)) (kv .key) (kv .op))) ⌝ }
 {
@@ -110,6 +110,7 @@ pub fn encode_entry_indexes(e: EntryIndexes, out: &mut [u8], at: usize) -> Wrote
 }
 
 // Writes an item with its tails at a place of out. The first of the lengths are those of its rows, and `total` is the sum of those before them.
+// Put keys are not looked at (no 23), and 14 counts this item's entries alone.
 pub fn encode(
     item: LogItem,
     store: &[u8],

@@ -13,7 +13,7 @@ use Rattle.list_writer.specs.Bytes.{listBytes}
 use Rattle.list_writer.specs.Refusing.{Verdict, fine, refused, listVerdict}
 
 abbrev pub measured : ℕ → ℕ → ℕ → ℕ → Measured
-measured number item length total = record { number = number; item = item; length = length; total = total }
+measured number item len total = record { number = number; item = item; length = len; total = total }
 
 -- the verdict on a list of n bytes, then 22: the footer has four
 unfoldable pub measuredOf : Verdict → ℕ → Measured
@@ -25,7 +25,7 @@ unfoldable pub measureOf : List ℕ → Bool → List LogItem → List ℕ → M
 measureOf s checked xs lengths = measuredOf (listVerdict s checked xs lengths) (length (listBytes s xs lengths))
 
 abbrev pub encoded : ℕ → ℕ → ℕ → Encoded
-encoded number item length = record { number = number; item = item; length = length }
+encoded number item len = record { number = number; item = item; length = len }
 
 -- the measure's refusal, then 21: the body does not fit from the place `at` on
 unfoldable pub encodedOf : Measured → List ℕ → ℕ → Encoded

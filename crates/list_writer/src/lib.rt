@@ -29,7 +29,8 @@ pub struct Measured {
     pub total: u32,
 }
 
-// The refusal and its item; or number 0 and the length of the body that was written, which is 0 exactly where it is refused.
+// The refusal's number and item; or number 0 and how many bytes were written. A body has some; a whole batch has none where there are no
+// items and no content.
 pub struct Encoded {
     pub number: u32,
     pub item: usize,

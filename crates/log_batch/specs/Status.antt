@@ -1,6 +1,6 @@
 -- Which items mark the status of an atomic group: a put whose key is the internal prefix followed by the single byte 01, with a content of one byte.
 -- Assumes nothing.
-use Prim.Native.Nat.{ℕ, zero, suc, _+_}
+use Prim.Native.Nat.{ℕ, zero, suc}
 use mathlib.Core.Bool.{Bool, cond, _&&_}
 use mathlib.Core.List.{List, [], _∷_, _++_}
 use lib.Dec.{eqb}

@@ -21,6 +21,6 @@ begins (b ∷ bs) (p ∷ ps) = eqb b p && begins bs ps
 abbrev pub bytesOf : List ℕ → Span → List ℕ
 bytesOf s k = take (k .len) (drop (k .at) s)
 
--- all of them are there
+-- a span lies in the bytes: it ends no later than they do
 abbrev pub inside : List ℕ → Span → Bool
 inside s k = leb (k .at + k .len) (length s)

@@ -44,7 +44,7 @@ byte s = do
   upto (p + 1) (getD s p 0)
 
 module _ (form : Form) (s : List ℕ) where
-  -- a number in the form asked for. 8 is no number of document 01: the plain-form test alone asks for Plain, and shows no refusal of it
+  -- a number in the form asked for. What Plain alone refuses has the number 8, which document 01 leaves free; the plain-form test answers no there
   abbrev pub inForm : Form → Reading ℕ
   inForm Any = λ p. numberGot (readNumber s p)
   inForm Plain = do

@@ -15,9 +15,10 @@ wellFormedBy t n front back = leb (t .count) n && (leb (t .count) front && (leb 
 unfoldable pub readyBy : ℕ → ℕ → ℕ → Bool
 readyBy last n first = leb n last && indexesFit first n
 
--- the overlap that starts at this row and that incoming row, of n rows and m incoming ones
+-- the overlap of len rows from this row and that incoming row on
 abbrev pub overlapAt : ℕ → ℕ → ℕ → Overlap
 overlapAt place from len = cond (eqb len 0) (record { start = 0; end = 0; from = 0 }) (record { start = place; end = place + len; from = from })
 
+-- the same of n rows and m incoming ones: as many as the shorter of what is left
 unfoldable pub overlapOf : ℕ → ℕ → ℕ → ℕ → Overlap
 overlapOf place from n m = overlapAt place from (min (n - place) (m - from))
