@@ -118,7 +118,8 @@ uint32_t raft_log_entry_view(const uint64_t row[6], const uint8_t *append, size_
 uint32_t raft_log_status(const uint64_t row[7], const uint8_t *store, size_t store_len, uint64_t answer[2]);
 
 /* Replaces rows of a location table by incoming ones. answer: rows replaced, rewritten count (after a refusal 0 and the old count).
- * `gate` counts where with_gate. 26, 27, 24, 25, 21 (more than 64 rows in the table or incoming). */
+ * `gate` counts where with_gate. 26, 27, 24, 25, 21 (more than 64 rows in the table or incoming). A row whose queue is above 1, or whose entry
+ * offset or length is above 4,294,967,295, is a 26 in the table and a 27 among the incoming ones. */
 uint32_t raft_log_rewrite(uint64_t *table, size_t table_words, uint64_t first_index, uint64_t rewritten, const uint64_t *incoming,
                           size_t incoming_words, uint64_t incoming_first, bool with_gate, uint64_t gate, uint64_t answer[2]);
 

@@ -1,7 +1,9 @@
 pub mod Tables
+pub mod RowItems
 pub mod Heads
 pub mod Rest
 pub mod Measuring
+pub mod RowsMeasuring
 pub mod Writing
 pub mod Bodies
 pub mod Determined

@@ -61,35 +61,33 @@ module _ (s : List ℕ) (checked : Bool) (xs : List LogItem) (ns : List ℕ) whe
 
 -- ---- the loop
 
--- All is as the whole list has it: the size so far with what is left, and the verdict on what is left.
-pub record Measuring (s : List ℕ) (checked : Bool) (xs : List LogItem) (ns : List ℕ) (i j tails t size : ℕ) : Type 0 where
+-- All is as the whole list has it: the size so far with what is left, and the verdict on what is left. `first` bytes stand before the items.
+pub record Measuring (s : List ℕ) (checked : Bool) (xs : List LogItem) (ns : List ℕ) (first i j tails t size : ℕ) : Type 0 where
   pub most : i ≤ length xs
   pub room : j + tails ≤ length ns
   pub begun : tails ≤ i * 1024
   pub low : t ≤ 4294967295
   pub small : size ≤ 10 + i * 4294967296 + j * 10
-  pub sum : capped (size + length (restBytes s xs ns i j tails t)) ≡ capped (length (listBytes s xs ns))
+  pub sum : capped (size + length (restBytes s xs ns i j tails t)) ≡ capped (first + length (itemsBytes s xs ns 0))
   pub told : restVerdict s xs ns checked i j tails t ≡ itemsVerdict s checked xs ns 0 0 0
 
 module _ (s : List ℕ) (checked : Bool) (xs : List LogItem) (ns : List ℕ) where
-  pub measuring-start : (size n : ℕ) → length xs ≡ n → n ≤ 256 → size ≡ length (shortest n) → Measuring s checked xs ns 0 0 0 0 size
-  unfolding listBytes
-  measuring-start size n k few e =
-      let q : size ≡ length (shortest (length xs)) = e ∙ ap (λ (m : ℕ). length (shortest m)) (sym k) in
+  pub measuring-start : (size n : ℕ) → n ≤ 256 → size ≡ length (shortest n) → Measuring s checked xs ns size 0 0 0 0 size
+  measuring-start size n few e =
       record {
         most = omega arith;
         room = omega arith;
         begun = omega arith;
         low = omega arith;
         small = omega (arith, number-short n (omega arith));
-        sum = omega (arith, length-append (shortest (length xs)) (itemsBytes s xs ns 0), ap length (bytes-start s xs ns));
+        sum = omega (arith, ap length (bytes-start s xs ns));
         told = told-start s xs ns checked;
       }
 
-  module _ {i j tails t size : ℕ} (m : Measuring s checked xs ns i j tails t size) where
+  module _ {first i j tails t size : ℕ} (m : Measuring s checked xs ns first i j tails t size) where
     -- a tail
     pub measuring-row : (r n : ℕ) → 0 < tails → getD ns j 0 ≡ r → t + r ≤ 4294967295 → n ≡ length (shortest (t + r))
-        → Measuring s checked xs ns i (j + 1) (tails - 1) (t + r) (size + n)
+        → Measuring s checked xs ns first i (j + 1) (tails - 1) (t + r) (size + n)
     measuring-row r n h e l p =
         let b : restBytes s xs ns i j tails t ≡ shortest (t + r) ++ restBytes s xs ns i (j + 1) (tails - 1) (t + r) =
         rw e at (bytes-row s xs ns i j tails t h (m .room)) in
@@ -121,7 +119,7 @@ module _ (s : List ℕ) (checked : Bool) (xs : List LogItem) (ns : List ℕ) whe
 
     -- an item
     pub measuring-item : (x : LogItem) (a b : ℕ) {rows : ℕ} → length ns ≡ rows → rows ≤ 1024 → tails ≤ 0 → i < length xs → getD xs i blankItem ≡ x
-        → measureItem s checked j rows x ≡ Fine a b → Measuring s checked xs ns (i + 1) j b t (size + a)
+        → measureItem s checked j rows x ≡ Fine a b → Measuring s checked xs ns first (i + 1) j b t (size + a)
     measuring-item x a b all few z h e f =
         let k = head-fine s checked j (length ns) x a b (rw all f) in
         let n = entriesOf (x .content) .count in
@@ -144,10 +142,13 @@ module _ (s : List ℕ) (checked : Bool) (xs : List LogItem) (ns : List ℕ) whe
     item-refused x n all z h e f = sym (told-now x z h e) ∙ head-refused s checked j (length ns) x n i _ (rw all f)
 
     -- the end
-    pub measuring-end : length xs ≤ 256 → tails ≤ 0 → length xs ≤ i → measuredOf (fine t) size ≡ measureOf s checked xs ns
-    unfolding measureOf listVerdict measuredOf
-    measuring-end few z h =
+    pub told-all : tails ≤ 0 → length xs ≤ i → itemsVerdict s checked xs ns 0 0 0 ≡ fine t
+    told-all z h = sym (m .told) ∙ ap (λ (n : ℕ). restVerdict s xs ns checked i j n t) (none z) ∙ told-end s xs ns checked i j t h
+
+    pub measuring-end : length xs ≤ 256 → first ≡ length (shortest (length xs)) → tails ≤ 0 → length xs ≤ i
+        → measuredOf (fine t) size ≡ measureOf s checked xs ns
+    unfolding measureOf listVerdict measuredOf listBytes
+    measuring-end few e z h =
         let y = ap (λ (n : ℕ). restBytes s xs ns i j n t) (none z) ∙ bytes-end s xs ns i j t h in
-        let v : itemsVerdict s checked xs ns 0 0 0 ≡ fine t =
-        sym (m .told) ∙ ap (λ (n : ℕ). restVerdict s xs ns checked i j n t) (none z) ∙ told-end s xs ns checked i j t h in
-        rw (le-ltb 256 (length xs) few, v) (measured-capped t size (length (listBytes s xs ns)) (omega (arith, m .sum, ap length y)))
+        rw (le-ltb 256 (length xs) few, told-all z h)
+        (measured-capped t size (length (listBytes s xs ns)) (omega (arith, m .sum, ap length y, length-append (shortest (length xs)) (itemsBytes s xs ns 0))))

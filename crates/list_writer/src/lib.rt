@@ -1,6 +1,10 @@
 // Writing a body at a place of a lent buffer: item count, items, footer. From log_batch.rs, the encode of LogItemBatch.
 //
 // Every public function takes any rows and counts, and spans that lie anywhere. A refused body is not written at all.
+mod rows;
+
+pub use rows::encode_rows;
+pub use rows::measure_rows;
 ghost use mathlib.Core.Path.{_≡_};
 ghost use mathlib.Core.Bool.{true};
 ghost use Prim.Native.Nat.{_+_, _-_, _≤_, min};

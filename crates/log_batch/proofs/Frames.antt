@@ -186,15 +186,20 @@ module _ (s : List ℕ) (signature : ℕ) where
         let same : h .len - 4 - h .offset ≡ h .len - h .offset - 4 = omega arith in
         rw (size, take-take (h .len - h .offset - 4) (h .len - h .offset) (drop (h .offset) s) less) (ap (λ (n : ℕ). take n (drop (h .offset) s)) same)
 
+    -- What is read of its body: the entry total that is wanted is the length of the block's content.
+    pub batch-part : {n : ℕ} → n ≡ h .offset - 16 - 4
+        → agreeing (Exactly n) (readItems Any (take (h .len - 4 - h .offset) (drop (h .offset) s)))
+        ≡ agreeing (Exactly (contentLength (blockOf h s))) (readItems Any (sealedPart (bodyOf h s)))
+    batch-part k =
+        let g = batch-known e in
+        let size : h .offset - 16 - 4 ≡ contentLength (blockOf h s) =
+        omega (arith, g .start, g .long, g .there, length-take (h .offset - 16) (drop 16 s), length-drop 16 s) in
+        ap₂ (λ (m : ℕ) (l : List ℕ). agreeing (Exactly m) (readItems Any l)) (k ∙ size) body-part
+
     pub table-read : {t : LogItemBatch} {n : ℕ} → n ≡ h .offset - 16 - 4
         → t ≡ tableOf (record { at = h .offset; len = h .len - h .offset }) (record { at = 16; len = h .offset - 16 })
         (agreeing (Exactly n) (readItems Any (take (h .len - 4 - h .offset) (drop (h .offset) s))))
         → t ≡ readBatch s signature
     unfolding readBatch
     table-read k f =
-        let g = batch-known e in
-        let size : h .offset - 16 - 4 ≡ contentLength (blockOf h s) =
-        omega (arith, g .start, g .long, g .there, length-take (h .offset - 16) (drop 16 s), length-drop 16 s) in
-        rw e
-        (f ∙ ap₂ (λ (m : ℕ) (l : List ℕ). tableOf (record { at = h .offset; len = h .len - h .offset }) (record { at = 16; len = h .offset - 16 })
-        (agreeing (Exactly m) (readItems Any l))) (k ∙ size) body-part)
+        rw e (f ∙ ap (tableOf (record { at = h .offset; len = h .len - h .offset }) (record { at = 16; len = h .offset - 16 })) (batch-part k))

@@ -1,6 +1,8 @@
 pub mod Frames
+pub mod RowsRead
 pub mod Planning
 pub mod Framing
+pub mod RowsWritten
 pub mod Views
 pub mod Marks
 pub mod Determined

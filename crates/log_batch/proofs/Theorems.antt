@@ -25,8 +25,9 @@ use Rattle.list_writer.specs.Answers.{measuredOf, measureOf, encoded, laid}
 use Rattle.item_batch.specs.Reading.{accepted, rejected, Answer, readItems}
 use Rattle.item_batch.specs.Body.{readBody, Acceptable}
 use Rattle.item_batch.specs.declared.Wanted.the-variants.{Exactly}
-use Rattle.item_batch.specs.Writing.{bodyItems, bodyRows, keysAndContents, AllSmall}
-use Rattle.one_reading.proofs.Written.{written-bytes, written-kept, read-back}
+use Rattle.item_batch.specs.Writing.{listed, rowLengths, BodyWritten, bodyItems, bodyRows, keysAndContents, AllSmall}
+use Rattle.item_batch.specs.declared.LogItemBatch.{LogItemBatch}
+use Rattle.one_reading.proofs.Written.{written-spelled, written-bytes, written-kept, read-back, other-signature, table-small, buffer-written, buffer-read-back}
 use Rattle.item_batch.specs.Table.{tableOf, emptyTable, agreeing}
 use Rattle.log_batch.specs.declared.LogBatch.{LogBatch}
 use Rattle.log_batch.specs.Header.{frame, header}
@@ -156,6 +157,31 @@ module _ (body block : Span) where
   pub check-refused : (r i : ℕ) → checkOf (rejected r i) ≡ check.Refused (tableOf body block (rejected r i) .refusal)
   unfolding tableOf
   check-refused r i = refl
+
+-- ---- bodies written
+
+-- What is written of a table is spelled, with shortest numbers, by its list with its places worked out.
+module _ (checked : Bool) (t : LogItemBatch) (s : List ℕ) (signature : ℕ) (out : List ℕ) {r : Encoded} {later : List ℕ} (small : AllSmall (t .items))
+    (w : BodyWritten checked t s signature out r later) (z : r .number ≡ 0) where
+  pub body-spelled : (total : ℕ) × (take (r .length) later ≡ bodyBytes s (listed t) (rowLengths t) signature)
+      × Spells (NumberIn Plain) (bodyItems s (listed t) (rowLengths t)) (bodyRows (listed t) (rowLengths t)) total (listBytes s (listed t) (rowLengths t))
+  body-spelled =
+      let b = buffer-written checked t s signature out w z in
+      (b .0, b .1, written-spelled s checked (listed t) (rowLengths t) (b .0) (table-small t small) (b .2) .0)
+
+  module _ (bytes : Bytes s) (key : signature < 2 ^ 32) where
+    -- Reading a written body under the same signature gives that list and the same key and content bytes.
+    pub body-read-back : (total : ℕ)
+        × (readBody (take (r .length) later) signature
+        ≡ accepted (bodyItems s (listed t) (rowLengths t)) (bodyRows (listed t) (rowLengths t)) total (length (listBytes s (listed t) (rowLengths t))))
+        × (keysAndContents (take (r .length) later) (bodyItems s (listed t) (rowLengths t)) ≡ keysAndContents s (listed t))
+    body-read-back = buffer-read-back checked t s signature out small bytes key w z
+
+    -- A written body, read under a second signature, is refused with 6 exactly when the two signatures, none being 0, differ.
+    pub second-signature : (b : ℕ) → (readBody (take (r .length) later) b ≡ rejected 6 0) ↔ (signature ≡ b → ⊥)
+    second-signature b =
+        let k = buffer-written checked t s signature out w z in
+        rw (k .1) (other-signature s checked (listed t) (rowLengths t) (k .0) (table-small t small) (k .2) bytes signature b key)
 
 -- ---- whole batches
 

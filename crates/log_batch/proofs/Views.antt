@@ -13,35 +13,36 @@ use Rattle.pipe_log.specs.declared.LogQueue.the-variants.{Append, Rewrite}
 use Rattle.pipe_log.specs.declared.Location.{Location}
 use Rattle.log_batch.specs.Batch.{blockCheck, contentLength}
 use Rattle.refusal.specs.First.{firstOf}
-use Rattle.log_batch.specs.View.{named, viewCheck, viewed}
+use Rattle.log_batch.specs.View.{named, entryCheck, viewCheck, viewed}
 use Rattle.log_batch.proofs.Frames.{first-fails, first-passes}
 
-module _ (row : Location) (block : List ℕ) where
-  pub entry-differs : (length block ≡ row .len → ⊥) → 20 ≡ viewCheck row block
-  unfolding viewCheck
+module _ (block : List ℕ) (long offset len : ℕ) where
+  pub entry-differs : (length block ≡ long → ⊥) → 20 ≡ entryCheck long offset len block
+  unfolding entryCheck
   entry-differs h = rw (ne-eqb _ _ h)
 
-  module _ (same : length block ≡ row .len) {n : ℕ} (e : n ≡ blockCheck block) where
-    pub entry-broken : (n ≡ 0 → ⊥) → n ≡ viewCheck row block
-    unfolding viewCheck
+  module _ (same : length block ≡ long) {n : ℕ} (e : n ≡ blockCheck block) where
+    pub entry-broken : (n ≡ 0 → ⊥) → n ≡ entryCheck long offset len block
+    unfolding entryCheck
     entry-broken h = rw (eq-eqb _ _ same) (first-fails (blockCheck block) _ e h)
 
     module _ (sealed : n ≡ 0) {c : ℕ} (content : c ≡ length block - 4) where
-      pub entry-outside : c < row .«entry_offset» + row .«entry_len» → 13 ≡ viewCheck row block
-      unfolding viewCheck
+      pub entry-outside : c < offset + len → 13 ≡ entryCheck long offset len block
+      unfolding entryCheck
       entry-outside h =
-          let k : contentLength block < row .«entry_offset» + row .«entry_len» = omega arith in
+          let k : contentLength block < offset + len = omega arith in
           rw (eq-eqb _ _ same, lt-leb _ _ k) (first-passes (blockCheck block) 13 e sealed refl)
 
-      pub entry-inside : row .«entry_offset» + row .«entry_len» ≤ c → 0 ≡ viewCheck row block
-      unfolding viewCheck
+      pub entry-inside : offset + len ≤ c → 0 ≡ entryCheck long offset len block
+      unfolding entryCheck
       entry-inside h =
-          let k : row .«entry_offset» + row .«entry_len» ≤ contentLength block = omega arith in
+          let k : offset + len ≤ contentLength block = omega arith in
           rw (eq-eqb _ _ same, le-leb _ _ k) (first-passes (blockCheck block) 0 e sealed refl)
 
+module _ (row : Location) (block : List ℕ) where
   -- An entry that passes every check lies in the block.
   pub entry-lies : viewCheck row block ≡ 0 → row .«entry_offset» + row .«entry_len» ≤ length block
-  unfolding viewCheck
+  unfolding entryCheck
   entry-lies e = go (eqb (length block) (row .len)) (blockCheck block) (leb (row .«entry_offset» + row .«entry_len») (contentLength block)) refl e
     where
       go : (a : Bool) (b : ℕ) (c : Bool) → leb (row .«entry_offset» + row .«entry_len») (contentLength block) ≡ c

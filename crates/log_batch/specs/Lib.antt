@@ -4,3 +4,4 @@ pub mod Written
 pub mod View
 pub mod Status
 pub mod Examples
+pub mod Rows

@@ -15,11 +15,13 @@ abbrev pub named : LogQueue → List ℕ → List ℕ → List ℕ
 named Append append rewrite = append
 named Rewrite append rewrite = rewrite
 
-unfoldable pub viewCheck : Location → List ℕ → ℕ
-viewCheck row block =
-    cond (eqb (length block) (row .len))
-    (firstOf (blockCheck block) (cond (leb (row .«entry_offset» + row .«entry_len») (contentLength block)) 0 13))
-    20
+-- the block is to have the length `long`; the entry stands in its content
+unfoldable pub entryCheck : ℕ → ℕ → ℕ → List ℕ → ℕ
+entryCheck long offset len block =
+    cond (eqb (length block) long) (firstOf (blockCheck block) (cond (leb (offset + len) (contentLength block)) 0 13)) 20
+
+abbrev pub viewCheck : Location → List ℕ → ℕ
+viewCheck row block = entryCheck (row .len) (row .«entry_offset») (row .«entry_len») block
 
 -- nothing where a check failed
 abbrev pub viewed : ℕ → Location → List ℕ → List ℕ

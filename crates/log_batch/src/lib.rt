@@ -1,8 +1,12 @@
 // Whole batches, read and written: header, block and body; the bytes of an entry; and the status of an atomic group. From log_batch.rs,
 // LogBatch and AtomicGroupStatus.
+mod rows;
 mod status;
 mod view;
 
+pub use rows::read_rows;
+pub use rows::write_rows;
+pub use view::check_entry;
 pub use view::entry_view;
 ghost use mathlib.Core.Path.{_≡_};
 ghost use mathlib.Core.Bool.{true, false};
@@ -17,6 +21,7 @@ ghost use Rattle.item_writer.specs.Private.{Room, Stored};
 ghost use Rattle.refusal.specs.First.{firstOf};
 ghost use Rattle.log_batch.specs.Status.{statusOf};
 use codec::U64Read;
+use item_batch::BodyCheck;
 use item_batch::LogItemBatch;
 use item_batch::Wanted;
 use list_writer::Encoded;
@@ -40,6 +45,13 @@ pub struct LogBatch {
 pub enum HeaderRead {
     Done { batch: LogBatch },
     Refused(u32),
+}
+
+// How much a batch holds, and where its body and its block stand; 0 0 where it is refused.
+pub struct BatchCheck {
+    pub check: BodyCheck,
+    pub body: Span,
+    pub block: Span,
 }
 
 impl LogBatch {

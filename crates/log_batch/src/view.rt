@@ -1,6 +1,6 @@
 // The bytes of an entry, as a part of the block that its row names.
 ghost use mathlib.Core.Path.{_≡_};
-ghost use Rattle.log_batch.specs.View.{named, viewCheck, viewed};
+ghost use Rattle.log_batch.specs.View.{named, entryCheck, viewCheck, viewed};
 use crate::check_block;
 use crate::content_len;
 use pipe_log::Location;
@@ -28,7 +28,12 @@ pub fn entry_view<'a>(
 fn part_of<'a>(row: Location, block: &'a [u8], refused: &mut u32) -> &'a [u8]
     ensures { λ r. ⌜ (now (refused .exit) ≡ viewCheck row (now (block .entry))) × (now r ≡ viewed (viewCheck row (now (block .entry))) row (now (block .entry))) ⌝ }
 {
-    let number = check_entry(row, block);
+    let number = check_entry(
+        block,
+        row.len,
+        row.entry_offset as u64,
+        row.entry_len as u64,
+    );
     *refused = number;
     if number != refusal::NONE {
         return &block[..0];
@@ -38,18 +43,23 @@ fn part_of<'a>(row: Location, block: &'a [u8], refused: &mut u32) -> &'a [u8]
     &block[start..end]
 }
 
-// The first check of an entry's row against its block that fails, or 0.
-fn check_entry(row: Location, block: &[u8]) -> u32
-    ensures { λ r. ⌜ r ≡ viewCheck row (now (block .entry)) ⌝ }
+// The first check of an entry against its block that fails, or 0: the block is to have the length `long`, and the entry's bytes stand in
+// its content.
+pub fn check_entry(block: &[u8], long: u64, offset: u64, len: u64) -> u32
+    ensures { λ r. ⌜ r ≡ entryCheck long offset len (now (block .entry)) ⌝ }
 {
-    if block.len() as u64 != row.len {
+    if block.len() as u64 != long {
         return refusal::BLOCK_DIFFERS;
     }
     let broken = check_block(block);
     if broken != refusal::NONE {
         return broken;
     }
-    if content_len(block.len()) < row.entry_offset as usize + row.entry_len as usize {
+    let content = content_len(block.len()) as u64;
+    if content < offset {
+        return refusal::SPAN_OUTSIDE;
+    }
+    if content - offset < len {
         return refusal::SPAN_OUTSIDE;
     }
     refusal::NONE

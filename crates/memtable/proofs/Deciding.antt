@@ -1,6 +1,6 @@
 -- The answer of a rewrite by the ways through `decide`: a law for each.
 -- Assumes nothing.
-use mathlib.Core.Path.{_≡_, ap, _∙_}
+use mathlib.Core.Path.{_≡_, _∙_}
 use Prim.Native.Nat.{ℕ, _-_, _<_, _≤_, max}
 use native.Mathlib.Omega.{arith}
 use mathlib.Core.Bool.{Bool, true, false}
@@ -14,6 +14,9 @@ use Rattle.memtable.specs.Rewriting.{unchanged, answered}
 -- the answer where rows are replaced
 abbrev moved : ℕ → ℕ → Rewritten
 moved replaced count = record { number = 0; replaced = replaced; count = count }
+
+same-moved : {a b c d : ℕ} → a ≡ b → c ≡ d → moved a c ≡ moved b d
+same-moved e f = cc
 
 module _ (good ready : Bool) (t : Table) (start stop end : ℕ) (gate : Gate) (r : Rewritten) where
   pub broken : good ≡ false → r ≡ unchanged 26 t → r ≡ answered good ready t (start) (stop - start) (end - start) gate
@@ -42,10 +45,10 @@ module _ (good ready : Bool) (t : Table) (start stop end : ℕ) (gate : Gate) (r
       unfolding answered
       before k z e = rw (g, h, some, le-ltb (t .count) (start) b, k, lt-ltb (start) (t .count) z) e
 
-      pub gated : {n : ℕ} → gate ≡ Gate.Given n → t .count ≤ start → start ≤ end → r ≡ moved (end - start) end → r ≡ answered good ready t (start) (stop - start) (end - start) gate
+      pub gated : {n w : ℕ} → gate ≡ Gate.Given n → t .count ≤ start → w ≡ max start end → r ≡ moved (w - start) w → r ≡ answered good ready t (start) (stop - start) (end - start) gate
       unfolding answered
-      gated k z y e = e ∙ (rw (g, h, some, le-ltb (t .count) (start) b, k, le-ltb (start) (t .count) z) (ap (moved (end - start)) (omega (arith, y))))
+      gated k z y e = e ∙ (rw (g, h, some, le-ltb (t .count) (start) b, k, le-ltb (start) (t .count) z) (same-moved (omega (arith, y)) (omega (arith, y))))
 
-      pub ungated : {c : ℕ} → gate ≡ Gate.None → start ≤ end → c ≡ max end (t .count) → r ≡ moved (end - start) c → r ≡ answered good ready t start (stop - start) (end - start) gate
+      pub ungated : {c w : ℕ} → gate ≡ Gate.None → w ≡ max start end → c ≡ max w (t .count) → r ≡ moved (w - start) c → r ≡ answered good ready t start (stop - start) (end - start) gate
       unfolding answered
-      ungated k y z e = e ∙ (rw (g, h, some, le-ltb (t .count) start b, k) (ap (moved (end - start)) (omega (arith, y, z))))
+      ungated k y z e = e ∙ (rw (g, h, some, le-ltb (t .count) start b, k) (same-moved (omega (arith, y)) (omega (arith, y, z))))

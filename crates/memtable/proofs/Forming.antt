@@ -1,7 +1,7 @@
 -- Whether a table is well formed, and incoming rows are taken, by the ways through the functions that tell it from numbers.
 -- Assumes nothing.
-use mathlib.Core.Path.{_≡_, refl, sym}
-use Prim.Native.Nat.{ℕ, zero, suc, _+_, _-_, _<_, _≤_, _^_}
+use mathlib.Core.Path.{_≡_, refl, sym, ap}
+use Prim.Native.Nat.{ℕ, zero, suc, _+_, _-_, _<_, _≤_, _^_, max}
 use native.Mathlib.Omega.{arith}
 use mathlib.Core.Bool.{Bool, true, false}
 use lib.Dec.{leb}
@@ -9,7 +9,7 @@ use borrow.Author.Tests.{le-leb, lt-leb, leb-true, leb-false}
 use Rattle.memtable.specs.declared.Table.{Table}
 use Rattle.memtable.specs.Table.{indexesFit}
 use Rattle.memtable.specs.Fetching.{fetched}
-use Rattle.memtable.specs.Private.{wellFormedBy, readyBy}
+use Rattle.memtable.specs.Parts.{wellFormedBy, readyBy}
 
 -- two tests that hold together
 same-test : (a b c d : ℕ) → (a ≤ b → c ≤ d) → (b < a → d < c) → leb a b ≡ leb c d
@@ -63,11 +63,11 @@ module _ (last n first : ℕ) where
   unfolding readyBy
   is-ready l e = rw (le-leb n last l) e
 
-module _ (good : Bool) (t : Table) (run : ℕ) where
-  pub fetched-broken : good ≡ false → record { number = 26; place = 0; len = 0 } ≡ fetched good t run
+module _ (good : Bool) (t : Table) (start end : ℕ) where
+  pub fetched-broken : good ≡ false → record { number = 26; place = 0; len = 0 } ≡ fetched good t (end - start)
   unfolding fetched
   fetched-broken e = rw e refl
 
-  pub fetched-run : good ≡ true → record { number = 0; place = t .count; len = run } ≡ fetched good t run
+  pub fetched-run : {w : ℕ} → good ≡ true → w ≡ max start end → record { number = 0; place = t .count; len = w - start } ≡ fetched good t (end - start)
   unfolding fetched
-  fetched-run e = rw e refl
+  fetched-run e h = rw e (ap (λ (n : ℕ). record { number = 0; place = t .count; len = n }) (omega (arith, h)))

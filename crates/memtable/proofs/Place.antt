@@ -28,6 +28,3 @@ from-0 c = omega arith
 
 pub cut-le : (a n c : ℕ) → c ≡ min a n → c ≤ n
 cut-le a n c e = omega (arith, e)
-
-pub on-le : (c k e : ℕ) → e ≡ c + k → c ≤ e
-on-le c k e p = omega (arith, p)

@@ -19,7 +19,7 @@ use Rattle.memtable.specs.declared.Rewritten.{Rewritten}
 use Rattle.memtable.specs.Rows.{runOf}
 use Rattle.memtable.specs.Table.{wellFormed, ready}
 use Rattle.memtable.specs.Rewriting.{stopOf, startPlace, startFrom, overlapLength, runLength, early, answered, rewriteOf, rowsAfter}
-use Rattle.memtable.specs.Private.{readyBy, overlapAt, overlapOf}
+use Rattle.memtable.specs.Parts.{readyBy, overlapAt, overlapOf}
 use Rattle.memtable.proofs.Overlaps.{over-le, over-rows, over-incoming}
 use Rattle.memtable.proofs.RunLaws.{run-take-le}
 use Rattle.memtable.proofs.Surveys.{ready-by}

@@ -18,7 +18,7 @@ use Rattle.memtable.specs.Rows.{isAppend, isRewrite, inAppend, inRewrite
 use Rattle.memtable.specs.Table.{all, wellFormed, ready}
 use Rattle.memtable.specs.declared.Fetched.{Fetched}
 use Rattle.memtable.specs.Fetching.{fetched, fetchOf}
-use Rattle.memtable.specs.Private.{wellFormedBy, readyBy}
+use Rattle.memtable.specs.Parts.{wellFormedBy, readyBy}
 use Rattle.memtable.proofs.Queues.{both}
 
 -- the count of a well-formed table is within its rows

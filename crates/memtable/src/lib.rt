@@ -1,5 +1,5 @@
 // The locations of a Raft group's entries: the rewrite of rows, and the fetch of those before a gate. From memtable.rs, rewrite and
-// fetch_entry_indexes_before.
+// fetch_entry_indexes_before. The decisions that look at no list of rows are open to callers whose rows lie elsewhere.
 ghost use mathlib.Core.Path.{_≡_};
 ghost use Prim.Native.Nat.{_+_, _-_, _<_, _≤_, min, max};
 ghost use lib.ListN.{length, take, drop};
@@ -8,7 +8,7 @@ ghost use Rattle.memtable.specs.Rows.{stopsAt, runOf};
 ghost use Rattle.memtable.specs.Table.{indexesFit, wellFormed};
 ghost use Rattle.memtable.specs.Rewriting.{stopOf, answered, rewriteOf, rowsAfter};
 ghost use Rattle.memtable.specs.Fetching.{fetched, fetchOf};
-ghost use Rattle.memtable.specs.Private.{wellFormedBy, readyBy, overlapAt, overlapOf};
+ghost use Rattle.memtable.specs.Parts.{wellFormedBy, readyBy, overlapAt, overlapOf};
 use pipe_log::Location;
 use pipe_log::LogQueue;
 
@@ -41,17 +41,17 @@ pub struct Fetched {
 }
 
 // What ends a run of rows: a row of the append queue, a row of the rewrite queue, or a row whose file number is above a gate.
-enum Stop {
+pub enum Stop {
     Append,
     Rewrite,
     Above(u64),
 }
 
 // The overlap of a table and incoming rows: the table's rows start to end, and the incoming rows from `from` on. Nothing: 0, 0, 0.
-struct Overlap {
-    start: usize,
-    end: usize,
-    from: usize,
+pub struct Overlap {
+    pub start: usize,
+    pub end: usize,
+    pub from: usize,
 }
 
 // Replaces the rows that overlap the incoming ones, from the overlap's start until its end or the first stop. The incoming rows are
@@ -124,7 +124,7 @@ fn replace(rows: &mut [Location], incoming: &[Location], start: usize, from: usi
 }
 
 // Whether the row ends the run.
-fn stops(row: Location, stop: Stop) -> bool
+pub fn stops(row: Location, stop: Stop) -> bool
     ensures { λ r. ⌜ r ≡ stopsAt stop row ⌝ }
 {
     let queue = row.queue;
@@ -142,7 +142,7 @@ fn stops(row: Location, stop: Stop) -> bool
 }
 
 // What ends the run of rows that are replaced under this gate.
-fn stop_of(gate: Gate) -> Stop
+pub fn stop_of(gate: Gate) -> Stop
     ensures { λ r. ⌜ r ≡ stopOf gate ⌝ }
 {
     match gate {
@@ -175,7 +175,7 @@ fn fits(first: u64, n: usize) -> bool
 }
 
 // Whether a table of n rows is well formed, by where a row of the wrong queue stands: the first before the count, and the first after it.
-fn is_formed(table: Table, n: usize, front: usize, back: usize) -> bool
+pub fn is_formed(table: Table, n: usize, front: usize, back: usize) -> bool
     ensures { λ r. ⌜ r ≡ wellFormedBy table n front back ⌝ }
 {
     let count = table.count;
@@ -192,7 +192,7 @@ fn is_formed(table: Table, n: usize, front: usize, back: usize) -> bool
 }
 
 // Whether n incoming rows are taken, by where the first that is not in the rewrite queue stands.
-fn is_ready(last: usize, n: usize, first: u64) -> bool
+pub fn is_ready(last: usize, n: usize, first: u64) -> bool
     ensures { λ r. ⌜ r ≡ readyBy last n first ⌝ }
 {
     if last < n {
@@ -202,7 +202,7 @@ fn is_ready(last: usize, n: usize, first: u64) -> bool
 }
 
 // The overlap of n rows from the index `own` on and m incoming rows from the index `first` on.
-fn overlap_of(own: u64, n: usize, first: u64, m: usize) -> Overlap
+pub fn overlap_of(own: u64, n: usize, first: u64, m: usize) -> Overlap
     ensures { λ r. ⌜ r ≡ overlapOf (first - own) (own - first) n m ⌝ }
 {
     if own <= first {
@@ -239,9 +239,15 @@ fn overlap_at(start: usize, from: usize, len: usize) -> Overlap
 }
 
 // The answer: the first check that fails, else how many rows are replaced, and the count. The run of rows before the first stop goes
-// from the overlap's start to `end`.
-fn decide(good: bool, ready: bool, table: Table, over: Overlap, end: usize, gate: Gate) -> Rewritten
-    requires { ⌜ over .start ≤ end ⌝ }
+// from the overlap's start to `end`, and is empty where that is before the start.
+pub fn decide(
+    good: bool,
+    ready: bool,
+    table: Table,
+    over: Overlap,
+    end: usize,
+    gate: Gate,
+) -> Rewritten
     ensures { λ r. ⌜ r ≡ answered good ready table (over .start) (over .end - over .start) (end - over .start) gate ⌝ }
 {
     let count = table.count;
@@ -259,14 +265,15 @@ fn decide(good: bool, ready: bool, table: Table, over: Overlap, end: usize, gate
     if count < start {
         return unchanged(refusal::OVERLAP_AFTER, count);
     }
-    let run = end - start;
+    let reached = larger(start, end);
+    let run = reached - start;
     match gate {
-        Gate::None => moved(run, larger(end, count)),
+        Gate::None => moved(run, larger(reached, count)),
         Gate::Given(_number) => {
             if start < count {
                 return unchanged(refusal::OVERLAP_BEFORE, count);
             }
-            moved(run, end)
+            moved(run, reached)
         }
     }
 }
@@ -291,9 +298,8 @@ fn moved(replaced: usize, count: usize) -> Rewritten
     }
 }
 
-// The run of a table from its rewritten count on; it goes from start to end.
-fn run_from(formed: bool, table: Table, start: usize, end: usize) -> Fetched
-    requires { ⌜ start ≤ end ⌝ }
+// The run of a table from its rewritten count on; it goes from start to `end`, and is empty where that is before the start.
+pub fn run_from(formed: bool, table: Table, start: usize, end: usize) -> Fetched
     ensures { λ r. ⌜ r ≡ fetched formed table (end - start) ⌝ }
 {
     if !formed {
@@ -303,9 +309,10 @@ fn run_from(formed: bool, table: Table, start: usize, end: usize) -> Fetched
             len: 0,
         };
     }
+    let reached = larger(start, end);
     Fetched {
         number: refusal::NONE,
         place: table.count,
-        len: end - start,
+        len: reached - start,
     }
 }

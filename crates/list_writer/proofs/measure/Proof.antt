@@ -1,11 +1,12 @@
 -- `list_writer::measure` meets its contract. The loop's invariant, `Measuring`: the size so far and the verdict on what is left give those of
 -- the whole list. The measure is the rows that the items left could use, and the tails left.
 -- Assumes nothing.
-use Prim.Native.Nat.{_≤_, _-_, _+_, _*_}
-use mathlib.Core.Path.{_≡_, _∙_, sym}
+use Prim.Native.Nat.{ℕ, _≤_, _-_, _+_, _*_}
+use mathlib.Core.Path.{_≡_, _∙_, sym, ap}
 use native.Mathlib.Omega.{arith}
 use borrow.Author.Needs.{needs}
 use lib.ListN.{length}
+use Rattle.codec.specs.Shortest.{shortest}
 use Rattle.list_writer.specs.Bytes.{itemsOf, lengthsOf}
 use Rattle.list_writer.proofs.Tables.{items-length, item-at, lengths-length, length-at}
 use Rattle.list_writer.proofs.Measuring.{too-many, measure-refused, Measuring, measuring-start, measuring-row, row-refused, measuring-item, item-refused, measuring-end}
@@ -14,8 +15,9 @@ use Rattle.list_writer.proofs.measure.Tie as tie
 
 abbrev Inv-loop : tie.InvT-loop
 Inv-loop item-count entry-count store checked items entries rows size₀ i₀ j₀ tails₀ total₀ size i j tails total =
-    Measuring store checked (itemsOf items item-count) (lengthsOf entries entry-count) i j tails total size
+    Measuring store checked (itemsOf items item-count) (lengthsOf entries entry-count) size₀ i j tails total size
     × (length (itemsOf items item-count) ≡ item-count) × (length (lengthsOf entries entry-count) ≡ rows) × (rows ≤ 1024) × (item-count ≤ 256)
+    × (size₀ ≡ length (shortest item-count))
 
 abbrev μ-loop : tie.MeasureT-loop
 μ-loop item-count entry-count store checked items entries rows size₀ i₀ j₀ tails₀ total₀ size i j tails total = (item-count - i) * 1025 + tails
@@ -34,11 +36,12 @@ var-u64-len-requires c κs = search needs
 
 loop-holds : tie.Need-loop-holds Inv-loop μ-loop
 loop-holds c = (
-  measuring-start _ _ _ _ _ _ (items-length _ _) (c .before .if1 .left) (c .var-u64-len .ensures),
+  measuring-start _ _ _ _ _ _ (c .before .if1 .left) (c .var-u64-len .ensures),
   items-length _ _,
   lengths-length _ _ ∙ sym (c .before .before .least .ensures),
   omega (arith, c .before .before .least .ensures),
   c .before .if1 .left,
+  c .var-u64-len .ensures,
 )
 
 mul-row : tie.Need-mul-row Inv-loop μ-loop
@@ -94,6 +97,7 @@ loop-again c =
       v .2,
       v .3,
       v .4,
+      v .5,
     )
 
 mul-item : tie.Need-mul-item Inv-loop μ-loop
@@ -150,6 +154,7 @@ loop-again-2 c =
       v .2,
       v .3,
       v .4,
+      v .5,
     )
 
 finish-requires : tie.Need-finish-requires Inv-loop μ-loop
@@ -158,7 +163,7 @@ finish-requires c κs = search needs
 returns-4 : tie.Need-returns-4 Inv-loop μ-loop
 returns-4 c =
     let v = c .before .before .before .loop .inv in
-    c .finish .ensures ∙ measuring-end _ _ _ _ (v .0) (omega arith) (c .before .before .if2 .left) (omega arith)
+    c .finish .ensures ∙ measuring-end _ _ _ _ (v .0) (omega arith) (v .5 ∙ ap (λ (n : ℕ). length (shortest n)) (sym (v .1))) (c .before .before .if2 .left) (omega arith)
 
 pub measure-spec : {M : Type 1} → statement M
 measure-spec =

@@ -30,14 +30,17 @@ unchanged-requires-4 c κs = search needs
 returns-4 : tie.Need-returns-4
 returns-4 c = behind _ _ _ _ _ _ _ _ (not-false _ (c .before .before .before .before .if1 .left)) (not-false _ (c .before .before .before .if2 .left)) (c .before .before .if3 .left) (c .before .if4 .taken) (c .unchanged4 .ensures)
 
+larger-requires : tie.Need-larger-requires
+larger-requires c κs = search needs
+
 sub-run : tie.Need-sub-run
 sub-run c = search needs
 
 enum-told : tie.Need-enum-told
 enum-told c = search needs
 
-larger-requires : tie.Need-larger-requires
-larger-requires c κs = search needs
+larger-requires-2 : tie.Need-larger-requires-2
+larger-requires-2 c κs = search needs
 
 moved-requires : tie.Need-moved-requires
 moved-requires c κs = search needs
@@ -49,16 +52,16 @@ unchanged-requires-5 : tie.Need-unchanged-requires-5
 unchanged-requires-5 c κs = search needs
 
 returns-5 : tie.Need-returns-5
-returns-5 c = before _ _ _ _ _ _ _ _ (not-false _ (c .before .before .before .before .before .before .before .before .if1 .left)) (not-false _ (c .before .before .before .before .before .before .before .if2 .left)) (c .before .before .before .before .before .before .if3 .left) (c .before .before .before .before .before .if4 .left) (c .before .before .before .gate .given .1) (c .before .if5 .taken) (c .unchanged5 .ensures)
+returns-5 c = before _ _ _ _ _ _ _ _ (not-false _ (c .before .before .before .before .before .before .before .before .before .if1 .left)) (not-false _ (c .before .before .before .before .before .before .before .before .if2 .left)) (c .before .before .before .before .before .before .before .if3 .left) (c .before .before .before .before .before .before .if4 .left) (c .before .before .before .gate .given .1) (c .before .if5 .taken) (c .unchanged5 .ensures)
 
 moved-requires-2 : tie.Need-moved-requires-2
 moved-requires-2 c κs = search needs
 
 returns-6 : tie.Need-returns-6
-returns-6 c = ungated _ _ _ _ _ _ _ _ (not-false _ (c .before .before .before .before .before .before .before .if1 .left)) (not-false _ (c .before .before .before .before .before .before .if2 .left)) (c .before .before .before .before .before .if3 .left) (c .before .before .before .before .if4 .left) (c .before .before .enum-told .given .1) (c .before .before .before .before .before .before .before .before .pre) (c .before .larger .ensures) (c .moved .ensures)
+returns-6 c = ungated _ _ _ _ _ _ _ _ (not-false _ (c .before .before .before .before .before .before .before .before .if1 .left)) (not-false _ (c .before .before .before .before .before .before .before .if2 .left)) (c .before .before .before .before .before .before .if3 .left) (c .before .before .before .before .before .if4 .left) (c .before .before .enum-told .given .1) (c .before .before .before .before .larger .ensures) (c .before .larger2 .ensures) (c .moved .ensures)
 
 returns-7 : tie.Need-returns-7
-returns-7 c = gated _ _ _ _ _ _ _ _ (not-false _ (c .before .before .before .before .before .before .before .before .if1 .left)) (not-false _ (c .before .before .before .before .before .before .before .if2 .left)) (c .before .before .before .before .before .before .if3 .left) (c .before .before .before .before .before .if4 .left) (c .before .before .before .gate .given .1) (c .before .if5 .left) (c .before .before .before .before .before .before .before .before .before .pre) (c .moved2 .ensures)
+returns-7 c = gated _ _ _ _ _ _ _ _ (not-false _ (c .before .before .before .before .before .before .before .before .before .if1 .left)) (not-false _ (c .before .before .before .before .before .before .before .before .if2 .left)) (c .before .before .before .before .before .before .before .if3 .left) (c .before .before .before .before .before .before .if4 .left) (c .before .before .before .gate .given .1) (c .before .if5 .left) (c .before .before .before .before .before .larger .ensures) (c .moved2 .ensures)
 
 pub decide-spec : {M : Type 1} → statement M
 decide-spec =
@@ -72,9 +75,10 @@ decide-spec =
     returns-3
     unchanged-requires-4
     returns-4
+    larger-requires
     sub-run
     enum-told
-    larger-requires
+    larger-requires-2
     moved-requires
     enum-known-gate
     unchanged-requires-5

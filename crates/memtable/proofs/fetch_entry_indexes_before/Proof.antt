@@ -48,7 +48,7 @@ use Rattle.memtable.specs.declared.Fetched.{Fetched}
 use Rattle.memtable.specs.Rows.{runOf}
 use Rattle.memtable.specs.Table.{wellFormed}
 use Rattle.memtable.specs.Fetching.{fetched, fetchOf}
-use Rattle.memtable.proofs.Place.{cut-le, on-le}
+use Rattle.memtable.proofs.Place.{cut-le}
 use Rattle.memtable.proofs.Surveys.{fetched-by}
 use Rattle.by_hand.proofs.Locals.{tyAt}
 use Rattle.memtable.proofs.Machine.{R, valT, valS}
@@ -170,8 +170,8 @@ module _ {M : Type 1} (𝓤 : URA M) (H : Heap 𝓤) (A : Atoms 𝓤) (W : Given
     abbrev to-from : From 𝓤 H A mem run .Ghost
     to-from = ((tt, tt, tt, (x, (t, (lo, (e, tt)))), (vbool x ∷ [], (valT t ∷ [], (vint w64 lo ∷ [], (vint w64 e ∷ [], tt))))), tt)
 
-    ask-from : lo < 2 ^ 64 → e < 2 ^ 64 → lo ≤ e → ent 𝓤 (emp 𝓤) (From 𝓤 H A mem run .pre to-from)
-    ask-from g₁ g₂ le = qed W [] ∵ says ! le $ nothing ! $ owned ! usize (Is usize) (uint-makes 𝓤 H A W w64) e _ (refl, g₂) $ fjoin ! $ owned ! usize (Is usize) (uint-makes 𝓤 H A W w64) lo _ (refl, g₁) $ fjoin ! $ owned ! Tb.the-row (Is Tb.the-row) (LL.makes Tb.the-type Tb′.the-plain 𝓤 H A) t _ it $ fjoin ! $ owned ! Boolean (Is Boolean) (bool-makes 𝓤 H A W) x _ refl $ fjoin ! $ nothing ! $ frame ! $ done !
+    ask-from : lo < 2 ^ 64 → e < 2 ^ 64 → ent 𝓤 (emp 𝓤) (From 𝓤 H A mem run .pre to-from)
+    ask-from g₁ g₂ = qed W [] ∵ nothing ! $ owned ! usize (Is usize) (uint-makes 𝓤 H A W w64) e _ (refl, g₂) $ fjoin ! $ owned ! usize (Is usize) (uint-makes 𝓤 H A W w64) lo _ (refl, g₁) $ fjoin ! $ owned ! Tb.the-row (Is Tb.the-row) (LL.makes Tb.the-type Tb′.the-plain 𝓤 H A) t _ it $ fjoin ! $ owned ! Boolean (Is Boolean) (bool-makes 𝓤 H A W) x _ refl $ fjoin ! $ nothing ! $ join ! $ frame ! $ done !
 
     said-from : (r : Fetched) → ent 𝓤 (ensured 𝓤 H A rf.ended (rf.clauses 𝓤 H A mem run) tt (x, (t, (lo, (e, tt)))) tt r) (fact 𝓤 (r ≡ fetched x t (e - lo)))
     said-from r = exE 𝓤 _ (λ ws. snd∗ 𝓤 (sem 𝓤 H A (lasts rf.ended tt (x, (t, (lo, (e, tt)))) ws)) (fact 𝓤 (r ≡ fetched x t (e - lo))))
@@ -202,7 +202,7 @@ module _ {M : Type 1} (𝓤 : URA M) (H : Heap 𝓤) (A : Atoms 𝓤) (W : Given
         split ! $ move ! (1 ∷ []) $ use1 W (raw (fact 𝓤 (e ≡ c + runOf (Stop.Above gate) (take (n - c) (dropL c ys))))) (said-scan c n (Stop.Above gate) (valS (Stop.Above gate)) e) $ heard ! (e ≡ c + runOf (Stop.Above gate) (take (n - c) (dropL c ys))) (λ e₂. split ! $ move ! (1 ∷ []) $
         peeks ! usize (Is usize) (shows 𝓤 H A usize) e (u₂ ∷ []) (λ i₂. land ! (from ! (stop !)) (init ! 7 refl (uint-lawful 𝓤 H A W w64 .typed e _ i₂ .0)) $ drop ! $ rewrite ! 6 (λ (w : Val). ‵ (fat fullShare (tyAt body.locals 6) l₆ 0 w)) (ap only (i₂ .0)) refl $
         -- the covered decision
-        use0 W (raw (From 𝓤 H A mem run .pre (to-from x c e))) (ask-from x c e (i₁ .1) (i₂ .1) (on-le c _ e e₂)) $
+        use0 W (raw (From 𝓤 H A mem run .pre (to-from x c e))) (ask-from x c e (i₁ .1) (i₂ .1)) $
         calls-at ! fm (From 𝓤 H A mem run) known-from (to-from x c e) (and-then ! (load ! (from ! (stop !)) (look ! 11 refl)) (and-then ! (load ! (from ! (stop !)) (look ! 15 refl)) (and-then ! (load ! (from ! (stop !)) (look ! 9 refl)) (and-then ! (load ! (from ! (stop !)) (look ! 7 refl)) (no-more !))))) (λ w.
         use1 W (later (some (λ (r : Fetched). (‵ ftrue ⊛ ‵ (Ft.the-row .own r (w ∷ []))) ⊛ raw (ensured 𝓤 H A rf.ended (rf.clauses 𝓤 H A mem run) tt (x, (t, (c, (e, tt)))) tt r)))) (id⊢ 𝓤 _) $ await ! tt $ pick ! (λ r.
         split ! $ move ! (1 ∷ []) $ use1 W (raw (fact 𝓤 (r ≡ fetched x t (e - c)))) (said-from x c e r) $ heard ! (r ≡ fetched x t (e - c)) (λ e₃. split ! $ drop ! $

@@ -47,7 +47,7 @@ use Rattle.memtable.specs.declared.Table.{Table}
 use Rattle.memtable.specs.declared.Stop.{Stop}
 use Rattle.memtable.specs.Rows.{runOf}
 use Rattle.memtable.specs.Table.{wellFormed}
-use Rattle.memtable.specs.Private.{wellFormedBy}
+use Rattle.memtable.specs.Parts.{wellFormedBy}
 use Rattle.memtable.proofs.Place.{from-0, cut-le}
 use Rattle.memtable.proofs.Surveys.{formed-by}
 use Rattle.by_hand.proofs.Locals.{tyAt}

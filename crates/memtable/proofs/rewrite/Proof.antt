@@ -60,8 +60,8 @@ use Rattle.memtable.specs.declared.Rewritten.{Rewritten}
 use Rattle.memtable.specs.Rows.{runOf}
 use Rattle.memtable.specs.Table.{wellFormed}
 use Rattle.memtable.specs.Rewriting.{stopOf, answered, rewriteOf, rowsAfter}
-use Rattle.memtable.specs.Private.{readyBy, overlapOf}
-use Rattle.memtable.proofs.Place.{from-0, on-le}
+use Rattle.memtable.specs.Parts.{readyBy, overlapOf}
+use Rattle.memtable.proofs.Place.{from-0}
 use Rattle.memtable.proofs.Overlaps.{over-le, over-rows}
 use Rattle.memtable.proofs.Rewrites.{run-fits, rewritten-by}
 use Rattle.by_hand.proofs.Locals.{tyAt}
@@ -277,10 +277,10 @@ module _ {M : Type 1} (𝓤 : URA M) (H : Heap 𝓤) (A : Atoms 𝓤) (W : Given
       abbrev to-decide : Decide 𝓤 H A mem run .Ghost
       to-decide = ((tt, tt, tt, arg-decide, (vbool c ∷ [], (vbool z ∷ [], (valT t ∷ [], (valO p ∷ [], (vint w64 e ∷ [], (v ∷ [], tt))))))), tt)
 
-      ask-decide : e < 2 ^ 64 → p .start ≤ e → ent 𝓤 (emp 𝓤) (Decide 𝓤 H A mem run .pre to-decide)
-      ask-decide g-e le =
-          qed W [] ∵ says ! le $ nothing ! $ owned ! G.the-row (Is G.the-row) (EL.makes G.the-type G′.the-plain 𝓤 H A) gate _ gg $ fjoin ! $ owned ! usize (Is usize) (uint-makes 𝓤 H A W w64) e _ (refl, g-e) $ fjoin ! $ owned ! O.the-row (Is O.the-row) (LL.makes O.the-type O′.the-plain 𝓤 H A) p _ is-p $ fjoin ! $
-          owned ! Tb.the-row (Is Tb.the-row) (LL.makes Tb.the-type Tb′.the-plain 𝓤 H A) t _ it $ fjoin ! $ owned ! Boolean (Is Boolean) (bool-makes 𝓤 H A W) z _ refl $ fjoin ! $ owned ! Boolean (Is Boolean) (bool-makes 𝓤 H A W) c _ refl $ fjoin ! $ nothing ! $ frame ! $ done !
+      ask-decide : e < 2 ^ 64 → ent 𝓤 (emp 𝓤) (Decide 𝓤 H A mem run .pre to-decide)
+      ask-decide g-e =
+          qed W [] ∵ nothing ! $ owned ! G.the-row (Is G.the-row) (EL.makes G.the-type G′.the-plain 𝓤 H A) gate _ gg $ fjoin ! $ owned ! usize (Is usize) (uint-makes 𝓤 H A W w64) e _ (refl, g-e) $ fjoin ! $ owned ! O.the-row (Is O.the-row) (LL.makes O.the-type O′.the-plain 𝓤 H A) p _ is-p $ fjoin ! $
+          owned ! Tb.the-row (Is Tb.the-row) (LL.makes Tb.the-type Tb′.the-plain 𝓤 H A) t _ it $ fjoin ! $ owned ! Boolean (Is Boolean) (bool-makes 𝓤 H A W) z _ refl $ fjoin ! $ owned ! Boolean (Is Boolean) (bool-makes 𝓤 H A W) c _ refl $ fjoin ! $ nothing ! $ join ! $ frame ! $ done !
 
       said-decide : (d : Rewritten) → ent 𝓤 (ensured 𝓤 H A dc.ended (dc.clauses 𝓤 H A mem run) tt arg-decide tt d) (fact 𝓤 (d ≡ answered c z t (p .start) (p .end - p .start) (e - p .start) gate))
       said-decide d = exE 𝓤 _ (λ ws. snd∗ 𝓤 (sem 𝓤 H A (lasts dc.ended tt arg-decide ws)) (fact 𝓤 (d ≡ answered c z t (p .start) (p .end - p .start) (e - p .start) gate)))
@@ -343,7 +343,7 @@ module _ {M : Type 1} (𝓤 : URA M) (H : Heap 𝓤) (A : Atoms 𝓤) (W : Given
         split ! $ move ! (1 ∷ []) $ use1 W (raw (fact 𝓤 (e ≡ p .start + runOf s (take (p .end - p .start) (dropL (p .start) xs))))) (said-scan p is-p e₃ s u₄ i₄ (ν′ ∷ []) γ₂ e) $ heard ! (e ≡ p .start + runOf s (take (p .end - p .start) (dropL (p .start) xs))) (λ e₅. split ! $ move ! (1 ∷ []) $ peeks ! usize (Is usize) (shows 𝓤 H A usize) e (u₅ ∷ []) (λ i₅. land ! (from ! (stop !)) (init ! 30 refl (uint-lawful 𝓤 H A W w64 .typed e _ i₅ .0)) $ drop ! $
         rewrite ! 29 (λ (w : Val). ‵ (fat fullShare (tyAt body.locals 11) l₁₁ 0 w)) (ap only (i₅ .0)) refl $ split ! $ lft-end ! tt $ move ! (0 ∷ 2 ∷ []) $ lent-back ! tt $ fsplit ! $ drop ! $ move ! (0 ∷ 2 ∷ 3 ∷ 4 ∷ []) $ closes-slice ! tt R xs xs refl b o $ move ! (3 ∷ []) $ drop ! $
         -- the covered decision
-        use0 W (raw (Decide 𝓤 H A mem run .pre (to-decide p is-p e₃ c z e))) (ask-decide p is-p e₃ c z e (i₅ .1) (on-le (p .start) _ e e₅)) $
+        use0 W (raw (Decide 𝓤 H A mem run .pre (to-decide p is-p e₃ c z e))) (ask-decide p is-p e₃ c z e (i₅ .1)) $
         calls-at ! fm (Decide 𝓤 H A mem run) known-decide (to-decide p is-p e₃ c z e) (and-then ! (load ! (from ! (stop !)) (look ! 38 refl)) (and-then ! (load ! (from ! (stop !)) (look ! 34 refl)) (and-then ! (load ! (from ! (stop !)) (look ! 46 refl)) (and-then ! (load ! (from ! (stop !)) (look ! 32 refl)) (and-then ! (load ! (from ! (stop !)) (look ! 28 refl)) (and-then ! (load ! (from ! (stop !)) (look ! 40 refl)) (no-more !))))))) (λ u₆.
         use1 W (later (some (λ (d : Rewritten). (‵ ftrue ⊛ ‵ (D.the-row .own d (u₆ ∷ []))) ⊛ raw (ensured 𝓤 H A dc.ended (dc.clauses 𝓤 H A mem run) tt (arg-decide p is-p e₃ c z e) tt d)))) (id⊢ 𝓤 _) $ await ! tt $ pick ! (λ d.
         split ! $ move ! (1 ∷ []) $ use1 W (raw (fact 𝓤 (d ≡ answered c z t (p .start) (p .end - p .start) (e - p .start) gate))) (said-decide p is-p e₃ c z e d) $ heard ! (d ≡ answered c z t (p .start) (p .end - p .start) (e - p .start) gate) (λ e₆. split ! $ drop ! $ peeks ! D.the-row (Is D.the-row) (shows 𝓤 H A D.the-row) d (u₆ ∷ []) (λ i₆. land ! (from ! (stop !)) (init ! 26 refl (LL.lawful D.the-type D′.the-laws 𝓤 H A W .typed d _ i₆ .0)) $ drop ! $

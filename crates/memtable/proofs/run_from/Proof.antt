@@ -7,13 +7,16 @@ use Rattle.memtable.proofs.run_from.Statement.{statement}
 use Rattle.memtable.proofs.run_from.Tie as tie
 
 returns : tie.Need-returns
-returns c = fetched-broken _ _ _ (not-true _ (c .if1 .taken))
+returns c = fetched-broken _ _ _ _ (not-true _ (c .if1 .taken))
 
-sub-t6 : tie.Need-sub-t6
-sub-t6 c = search needs
+larger-requires : tie.Need-larger-requires
+larger-requires c κs = search needs
+
+sub-t7 : tie.Need-sub-t7
+sub-t7 c = search needs
 
 returns-2 : tie.Need-returns-2
-returns-2 c = fetched-run _ _ _ (not-false _ (c .if1 .left))
+returns-2 c = fetched-run _ _ _ _ (not-false _ (c .before .if1 .left)) (c .larger .ensures)
 
 pub run-from-spec : {M : Type 1} → statement M
-run-from-spec = tie.close (tie.spec returns sub-t6 returns-2)
+run-from-spec = tie.close (tie.spec returns larger-requires sub-t7 returns-2)

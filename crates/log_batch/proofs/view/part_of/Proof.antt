@@ -1,12 +1,18 @@
 -- `log_batch::view::part_of` meets its contract.
 -- Assumes nothing.
-use mathlib.Core.Path.{sym, _∙_}
 use denote.Ref.{now}
-use Rattle.log_batch.proofs.Views.{entry-lies, view-none, view-some}
+use mathlib.Core.Path.{sym, _∙_}
 use native.Mathlib.Omega.{arith}
+use Rattle.log_batch.proofs.Views.{entry-lies, view-none, view-some}
 use borrow.Author.Needs.{needs}
 use Rattle.log_batch.proofs.view.part_of.Statement.{statement}
 use Rattle.log_batch.proofs.view.part_of.Tie as tie
+
+cast-check-entry : tie.Need-cast-check-entry
+cast-check-entry c = search needs
+
+cast-check-entry-2 : tie.Need-cast-check-entry-2
+cast-check-entry-2 c = search needs
 
 check-entry-requires : tie.Need-check-entry-requires
 check-entry-requires c κs = search needs
@@ -33,7 +39,7 @@ part-result-start : tie.Need-part-result-start
 part-result-start c = search needs
 
 part-result-end : tie.Need-part-result-end
-part-result-end c = let a = c .before .before .before .before .before .args in omega (arith, entry-lies (a .row) (now (a .block)) (sym (c .before .before .before .check-entry .ensures) ∙ c .before .before .if1 .left))
+part-result-end c = let a = c .before .before .before .before .before .before .before .args in omega (arith, entry-lies (a .row) (now (a .block)) (sym (c .before .before .before .check-entry .ensures) ∙ c .before .before .if1 .left))
 
 returns-2 : tie.Need-returns-2
 returns-2 c = (c .before .before .before .before .check-entry .ensures, view-some _ _ (c .before .before .before .before .check-entry .ensures) (c .before .before .before .if1 .left))
@@ -42,6 +48,8 @@ pub part-of-spec : {M : Type 1} → statement M
 part-of-spec =
     tie.close
     (tie.spec
+    cast-check-entry
+    cast-check-entry-2
     check-entry-requires
     slice-aggregate-result
     returns

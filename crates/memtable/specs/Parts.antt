@@ -1,4 +1,4 @@
--- What the contracts of private functions cite: no public contract does.
+-- The parts of the answers that look at no list of rows: they have the number of rows, and where the first row of a wrong queue stands.
 -- Assumes nothing.
 use Prim.Native.Nat.{ℕ, _+_, _-_, min}
 use mathlib.Core.Bool.{Bool, _&&_, cond}

@@ -1,0 +1,4 @@
+pub mod Rows
+pub mod Words
+pub mod Again
+pub mod Determined

@@ -1,0 +1,140 @@
+// Writing a body from rows of words that the caller lends, seven to an item and three to an entry: a measuring pass decides every refusal
+// and the length, and a writing pass cannot refuse. Words behind the last whole row are not looked at.
+ghost use mathlib.Core.Path.{_≡_};
+ghost use Prim.Native.Nat.{_+_, _*_, _≤_};
+ghost use lib.ListN.{length, getD};
+ghost use Rattle.item_row.specs.Row.{rowAt};
+ghost use Rattle.list_writer.specs.Bytes.{bodyBytes};
+ghost use Rattle.list_writer.specs.Answers.{encodedOf, laid};
+ghost use Rattle.list_writer.specs.Rows.{rowItems, entryLengths, measureRows};
+use crate::Encoded;
+use crate::Measured;
+use crate::answer;
+use crate::finish;
+use crate::least;
+use crate::refuse;
+use crate::write_footer;
+use crate::write_head;
+use crate::write_number;
+use item_row::RowRead;
+use item_writer::Head;
+
+// The first refusal of a body but 21, or its length.
+pub fn measure_rows(items: &[u64], entries: &[u64], store: &[u8], checked: bool) -> Measured
+    ensures { λ r. ⌜ r ≡ measureRows (now (store .entry)) checked (now (items .entry)) (now (entries .entry)) ⌝ }
+{
+    let count = items.len() / 7;
+    let rows = least(entries.len() / 3, 1024);
+    if 256 < count {
+        return refuse(refusal::ITEMS_TOO_MANY, 0);
+    }
+    let mut size = codec::var_u64_len(count as u64);
+    let mut i: usize = 0;
+    let mut j: usize = 0;
+    let mut tails: usize = 0;
+    let mut total: u32 = 0;
+    loop {
+        if 0 < tails {
+            let len = entry_len(entries, j);
+            if ((u32::MAX - total) as u64) < len {
+                return refuse(refusal::TAIL_TOO_LARGE, i - 1);
+            }
+            total += len as u32;
+            size += codec::var_u64_len(total as u64);
+            j += 1;
+            tails -= 1;
+        } else if i < count {
+            match row_at(items, i) {
+                RowRead::Refused(number) => {
+                    return refuse(number, i);
+                }
+                RowRead::Item(item) => match item_writer::measure(item, store, checked, j, rows) {
+                    Head::Refused(number) => {
+                        return refuse(number, i);
+                    }
+                    Head::Fine { len, count: n } => {
+                        size += len;
+                        tails = n;
+                        i += 1;
+                    }
+                },
+            }
+        } else {
+            return finish(size, total);
+        }
+    }
+}
+
+// The item of row i.
+fn row_at(items: &[u64], i: usize) -> RowRead
+    requires { ⌜ i * 7 + 7 ≤ length (now items) ⌝ }
+    ensures { λ r. ⌜ r ≡ rowAt (now (items .entry)) i ⌝ }
+{
+    let at = i * 7;
+    item_row::item_of(
+        items[at],
+        items[at + 1],
+        items[at + 2],
+        items[at + 3],
+        items[at + 4],
+        items[at + 5],
+        items[at + 6],
+    )
+}
+
+// The length of entry row j.
+fn entry_len(entries: &[u64], j: usize) -> u64
+    requires { ⌜ j * 3 + 3 ≤ length (now entries) ⌝ }
+    ensures { λ r. ⌜ r ≡ getD (now (entries .entry)) (j * 3 + 2) 0 ⌝ }
+{
+    entries[j * 3 + 2]
+}
+
+// Writes the body at a place of out, or leaves out as it was and says why.
+pub fn encode_rows(
+    items: &[u64],
+    entries: &[u64],
+    store: &[u8],
+    signature: u32,
+    checked: bool,
+    out: &mut [u8],
+    at: usize,
+) -> Encoded
+    ensures { λ r. ⌜ (r ≡ encodedOf (measureRows (now (store .entry)) checked (now (items .entry)) (now (entries .entry))) (now (out .entry)) at) × (now (out .exit) ≡ laid r (now (out .entry)) at (bodyBytes (now (store .entry)) (rowItems (now (items .entry))) (entryLengths (now (entries .entry))) signature)) ⌝ }
+{
+    let m = measure_rows(items, entries, store, checked);
+    if m.length == 0 {
+        return answer(m.number, m.item, 0);
+    }
+    if out.len() < at {
+        return answer(refusal::OUTPUT_SHORT, 0, 0);
+    }
+    if out.len() - at < m.length {
+        return answer(refusal::OUTPUT_SHORT, 0, 0);
+    }
+    let count = items.len() / 7;
+    let mut next = write_number(count as u64, out, at);
+    let mut i: usize = 0;
+    let mut j: usize = 0;
+    let mut tails: usize = 0;
+    let mut total: u32 = 0;
+    loop {
+        if 0 < tails {
+            total += entry_len(entries, j) as u32;
+            next = write_number(total as u64, out, next);
+            j += 1;
+            tails -= 1;
+        } else if i < count {
+            let RowRead::Item(item) = row_at(items, i) else {
+                return answer(refusal::NONE, 0, 0);
+            };
+            next = write_head(item, store, out, next);
+            let listed = item.entries();
+            tails = listed.count;
+            i += 1;
+        } else {
+            write_footer(signature, out, at, next);
+            return answer(refusal::NONE, 0, m.length);
+        }
+    }
+}

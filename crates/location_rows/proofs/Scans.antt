@@ -1,0 +1,129 @@
+-- The loops over rows: whether each is a location's, and where a run of them ends.
+-- Assumes nothing.
+use mathlib.Core.Path.{_≡_, refl, sym, ap, _∙_}
+use Prim.Native.Nat.{ℕ, zero, suc, _+_, _-_, _*_, _<_, _≤_}
+use native.Mathlib.Nat.{add-zero}
+use native.Mathlib.Omega.{arith}
+use mathlib.Core.Bool.{Bool, true, false, _&&_}
+use mathlib.Core.List.{List}
+use lib.Dec.{leb}
+use lib.ListN.{length, getD, take, drop}
+use lib.Seq.{drop-drop, getD-drop}
+use borrow.Author.Tests.{le-leb, lt-leb}
+use Rattle.pipe_log.specs.declared.Location.{Location}
+use Rattle.pipe_log.specs.declared.LogQueue.{LogQueue}
+use Rattle.memtable.specs.declared.Stop.{Stop}
+use Rattle.memtable.specs.Rows.{stopsAt, runOf}
+use Rattle.memtable.proofs.Runs.{noRow, run-none, stopped, goes-on}
+use Rattle.location_rows.specs.Words.{queueOf, isRow, rowOf, areRows, rowCount}
+use Rattle.location_rows.specs.Private.{rowStart, located}
+use Rattle.location_rows.proofs.Rows.{less-none, locations-length, location-at}
+
+-- ---- one row
+
+module _ (queue offset len : ℕ) where
+  pub queue-wrong : 1 < queue → false ≡ isRow queue offset len
+  unfolding isRow
+  queue-wrong l = rw (lt-leb queue 1 l) refl
+
+  pub offset-wrong : queue ≤ 1 → 4294967295 < offset → false ≡ isRow queue offset len
+  unfolding isRow
+  offset-wrong l m = rw (le-leb queue 1 l, lt-leb offset 4294967295 m) refl
+
+  pub by-length : queue ≤ 1 → offset ≤ 4294967295 → leb len 4294967295 ≡ isRow queue offset len
+  unfolding isRow
+  by-length l m = rw (le-leb queue 1 l, le-leb offset 4294967295 m) refl
+
+pub is-rewrite : (queue : ℕ) → (queue ≡ 0 → ⊥) → LogQueue.Rewrite ≡ queueOf queue
+is-rewrite zero f = absurd (f refl)
+is-rewrite (suc queue) f = refl
+
+-- a stop looks at the queue and the file number alone
+stops-same : (stop : Stop) (queue seq : ℕ) (row : Location) → row .queue ≡ queueOf queue → row .seq ≡ seq → stopsAt stop row ≡ stopsAt stop (rowStart queue seq)
+stops-same Stop.Append queue seq row e f = rw e refl
+stops-same Stop.Rewrite queue seq row e f = rw e refl
+stops-same (Stop.Above gate) queue seq row e f = rw f refl
+
+pub stops-start : (stop : Stop) (seq queue : ℕ) {q : LogQueue} {r : Bool} → q ≡ queueOf queue
+    → r ≡ stopsAt stop (record { queue = q; seq = seq; offset = 0; len = 0; «entry_offset» = 0; «entry_len» = 0 }) → r ≡ stopsAt stop (rowStart queue seq)
+stops-start stop seq queue e f = f ∙ stops-same stop queue seq _ e refl
+
+-- the first word of the rest, and the words after it
+at-start : (words : List ℕ) (k : ℕ) → getD (drop k words) 0 0 ≡ getD words k 0
+at-start words k = getD-drop k words 0 0 ∙ ap (λ (m : ℕ). getD words m 0) (add-zero k)
+
+-- ---- whether each row is a location's
+
+-- the rows before i are
+pub record Checked (words : List ℕ) (n i : ℕ) : Type 0 where
+  pub within : i ≤ n
+  pub left : areRows n words ≡ areRows (n - i) (drop (i * 6) words)
+
+pub checked-none : (words : List ℕ) (n : ℕ) → Checked words n 0
+checked-none words n = record { within = omega arith; left = ap (λ (m : ℕ). areRows m words) (less-none n) }
+
+module _ {words : List ℕ} {n i : ℕ} (w : Checked words n i) where
+  pub checked-all : n ≤ i → true ≡ areRows n words
+  checked-all l = sym (w .left ∙ ap (λ (m : ℕ). areRows m (drop (i * 6) words)) none)
+    where
+      none : n - i ≡ 0
+      none = omega arith
+
+  module _ (l : i < n) {b : Bool} (e : b ≡ isRow (getD words (i * 6) 0) (getD words (i * 6 + 4) 0) (getD words (i * 6 + 5) 0)) where
+    one-more : areRows n words ≡ (b && areRows (n - (i + 1)) (drop ((i + 1) * 6) words))
+    one-more =
+        w .left ∙ ap (λ (m : ℕ). areRows m (drop (i * 6) words)) some
+        ∙ (rw (at-start words (i * 6), getD-drop (i * 6) words 4 0, getD-drop (i * 6) words 5 0, drop-drop 6 (i * 6) words, next, e) refl)
+      where
+        some : n - i ≡ suc (n - (i + 1))
+        some = omega arith
+
+        next : i * 6 + 6 ≡ (i + 1) * 6
+        next = omega arith
+
+    pub checked-broken : b ≡ false → false ≡ areRows n words
+    checked-broken f = sym (one-more ∙ (rw f refl))
+
+    pub checked-next : b ≡ true → Checked words n (i + 1)
+    checked-next f = record { within = omega arith; left = one-more ∙ (rw f refl) }
+
+-- ---- where a run ends
+
+-- no row from lo to i ends it
+pub record Scanned (words : List ℕ) (stop : Stop) (lo hi i : ℕ) : Type 0 where
+  pub within : i ≤ hi
+  pub run : lo + runOf stop (take (hi - lo) (drop lo (located words))) ≡ i + runOf stop (take (hi - i) (drop i (located words)))
+
+pub scanned-none : (words : List ℕ) (stop : Stop) (lo hi : ℕ) → lo ≤ hi → Scanned words stop lo hi lo
+scanned-none words stop lo hi l = record { within = l; run = refl }
+
+module _ {words : List ℕ} {stop : Stop} {lo hi i : ℕ} (w : Scanned words stop lo hi i) where
+  pub scanned-all : hi ≤ i → i ≡ lo + runOf stop (take (hi - lo) (drop lo (located words)))
+  scanned-all l =
+      same ∙ sym (w .run ∙ ap (λ (m : ℕ). m + runOf stop (take (hi - m) (drop m (located words)))) same ∙ ap (λ (m : ℕ). hi + m) (run-none stop (located words) hi) ∙ add-zero hi)
+    where
+      same : i ≡ hi
+      same = omega (arith, w .within)
+
+  module _ (l : i < hi) (h : hi ≤ rowCount words) {b : Bool} (e : b ≡ stopsAt stop (rowStart (getD words (i * 6) 0) (getD words (i * 6 + 1) 0))) where
+    row : stopsAt stop (getD (located words) i noRow) ≡ b
+    row =
+        ap (stopsAt stop) (location-at (rowCount words) i words noRow (omega arith))
+        ∙ stops-same stop (getD words (i * 6) 0) (getD words (i * 6 + 1) 0) (rowOf (drop (i * 6) words)) (ap queueOf (at-start words (i * 6))) (getD-drop (i * 6) words 1 0)
+        ∙ sym e
+
+    in-rows : hi ≤ length (located words)
+    in-rows = omega (arith, h, locations-length (rowCount words) words)
+
+    pub scanned-stop : b ≡ true → i ≡ lo + runOf stop (take (hi - lo) (drop lo (located words)))
+    scanned-stop f = sym (stopped stop (located words) hi _ i l in-rows (w .run) (row ∙ f))
+
+    pub scanned-next : b ≡ false → Scanned words stop lo hi (i + 1)
+    scanned-next f =
+        record {
+          within = omega arith;
+          run = goes-on stop (located words) hi _ i l in-rows (w .run) (row ∙ f) ∙ (rw one refl);
+        }
+      where
+        one : suc i ≡ i + 1
+        one = omega arith

@@ -1,0 +1,58 @@
+-- Whether a table of words is well formed, and incoming words are taken: a law for each way out.
+-- Assumes nothing.
+use mathlib.Core.Path.{_≡_, refl, sym, _∙_}
+use Prim.Native.Nat.{ℕ, _+_, _-_, _<_, _≤_}
+use native.Mathlib.Omega.{arith}
+use mathlib.Core.Bool.{Bool, true, false}
+use mathlib.Core.List.{List}
+use lib.ListN.{length, take, drop}
+use borrow.Author.Tests.{lt-leb}
+use Rattle.memtable.specs.declared.Table.{Table}
+use Rattle.memtable.specs.declared.Stop.{Stop}
+use Rattle.memtable.specs.Rows.{runOf}
+use Rattle.memtable.specs.Table.{wellFormed}
+use Rattle.memtable.specs.Parts.{wellFormedBy, readyBy}
+use Rattle.memtable.proofs.Queues.{both}
+use Rattle.memtable.proofs.Surveys.{formed-count, formed-by, ready-by}
+use Rattle.location_rows.specs.Words.{areRows, rowCount}
+use Rattle.location_rows.specs.Private.{located, formedWords, readyWords}
+use Rattle.location_rows.proofs.Rows.{locations-length}
+
+pub located-length : (words : List ℕ) → length (located words) ≡ rowCount words
+located-length words = locations-length (rowCount words) words
+
+module _ (words : List ℕ) {b : Bool} (e : b ≡ areRows (rowCount words) words) where
+  module _ (f : b ≡ false) where
+    pub unformed : (t : Table) → false ≡ formedWords words t
+    unfolding formedWords
+    unformed t = rw (sym e ∙ f) refl
+
+    pub unready : (first : ℕ) → false ≡ readyWords words first
+    unfolding readyWords
+    unready first = rw (sym e ∙ f) refl
+
+  module _ (f : b ≡ true) where
+    pub beyond : (t : Table) → rowCount words < t .count → false ≡ formedWords words t
+    unfolding formedWords wellFormed
+    beyond t l = rw (sym e ∙ f, lt-leb (t .count) (length (located words)) (omega (arith, l, located-length words))) refl
+
+    pub formed : (t : Table) {front back : ℕ} {r : Bool} → t .count ≤ rowCount words → front ≡ 0 + runOf Stop.Append (take (t .count - 0) (drop 0 (located words)))
+        → back ≡ t .count + runOf Stop.Rewrite (take (rowCount words - t .count) (drop (t .count) (located words))) → r ≡ wellFormedBy t (rowCount words) front back
+        → r ≡ formedWords words t
+    unfolding formedWords
+    formed t {front} {back} {r} l e₁ e₂ e₃ =
+        let n : length (located words) ≡ rowCount words = located-length words in
+        formed-by (located words) t (t .count) front back r (omega (arith, l, n)) e₁ (rw n e₂) (rw n e₃) ∙ (rw (sym e ∙ f) refl)
+
+    pub taken : (first : ℕ) {last : ℕ} {r : Bool} → last ≡ 0 + runOf Stop.Append (take (rowCount words - 0) (drop 0 (located words))) → r ≡ readyBy last (rowCount words) first
+        → r ≡ readyWords words first
+    unfolding readyWords
+    taken first {last} {r} e₁ e₂ =
+        let n : length (located words) ≡ rowCount words = located-length words in
+        ready-by (located words) first last r (rw n e₁) (rw n e₂) ∙ (rw (sym e ∙ f) refl)
+
+-- the rewritten count is within the rows
+pub count-within : (words : List ℕ) (t : Table) {b : Bool} → b ≡ formedWords words t → b ≡ true → t .count ≤ rowCount words
+unfolding formedWords
+count-within words t e f =
+    omega (arith, formed-count (located words) t (both (areRows (rowCount words) words) (wellFormed (located words) t) (sym e ∙ f) .1), located-length words)

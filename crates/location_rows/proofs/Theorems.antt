@@ -1,0 +1,91 @@
+-- What is promised of the rewrite on rows of words besides its contract.
+-- Assumes nothing.
+use mathlib.Core.Path.{_≡_, refl, ap, _∙_}
+use Prim.Native.Nat.{ℕ, _*_, _≤_}
+use native.Mathlib.Omega.{arith}
+use mathlib.Core.Bool.{Bool, true, false, cond}
+use mathlib.Core.List.{List, _++_}
+use lib.Dec.{leb, eqb}
+use lib.ListN.{length, drop, take-append-drop}
+use borrow.Author.Tests.{le-leb, eqb-false}
+use Rattle.pipe_log.specs.declared.Location.{Location}
+use Rattle.pipe_log.specs.declared.LogQueue.{LogQueue}
+use Rattle.memtable.specs.declared.Table.{Table}
+use Rattle.memtable.specs.declared.Gate.{Gate}
+use Rattle.memtable.specs.declared.Rewritten.{Rewritten}
+use Rattle.memtable.specs.Table.{wellFormed}
+use Rattle.memtable.specs.Rewriting.{unchanged, rewriteOf, rowsAfter}
+use Rattle.memtable.proofs.Theorems.{refused-kept}
+use Rattle.location_rows.specs.Words.{isRow, startsWell, rowOf, areRows, rowCount, Rows, rows, broken, rowsOf, queueOf, queueWord, rowWords, rowsWords}
+use Rattle.location_rows.specs.Answers.{inReach, limited, rewriteRows, rowsAfterwards}
+use Rattle.location_rows.specs.Private.{located}
+use Rattle.location_rows.proofs.Rows.{room, rows-back}
+use Rattle.location_rows.proofs.Surveys.{located-length}
+use Rattle.location_rows.proofs.Limits.{limited-in, limited-21, limited-same}
+
+queue-again : (q : LogQueue) → (leb (queueWord q) 1 ≡ true) × (queueOf (queueWord q) ≡ q)
+queue-again LogQueue.Append = (refl, refl)
+queue-again LogQueue.Rewrite = (refl, refl)
+
+-- A location's words are a row, and the row is that location.
+pub row-again : (x : Location) → x .«entry_offset» ≤ 4294967295 → x .«entry_len» ≤ 4294967295 → (startsWell (rowWords x) ≡ true) × (rowOf (rowWords x) ≡ x)
+unfolding isRow
+row-again x l m = (
+  rw (queue-again (x .queue) .0, le-leb (x .«entry_offset») 4294967295 l, le-leb (x .«entry_len») 4294967295 m) refl,
+  ap
+      (λ (q : LogQueue).
+      record { queue = q; seq = x .seq; offset = x .offset; len = x .len; «entry_offset» = x .«entry_offset»; «entry_len» = x .«entry_len» })
+      (queue-again (x .queue) .1),
+)
+
+-- The words of the rows, and then what does not make up a row, are the words.
+pub words-again : (words : List ℕ) → areRows (rowCount words) words ≡ true → rowsWords (located words) ++ drop (rowCount words * 6) words ≡ words
+words-again words h =
+    ap (λ (v : List ℕ). v ++ drop (rowCount words * 6) words) (rows-back (rowCount words) words (room (length words)) h) ∙ take-append-drop (rowCount words * 6) words
+
+located-rows : (words : List ℕ) (xs : List Location) → rowsOf words ≡ rows xs → rowsWords xs ++ drop (length xs * 6) words ≡ words
+unfolding rowsOf
+located-rows words xs e = told (areRows (rowCount words) words) refl e
+  where
+    told : (b : Bool) → areRows (rowCount words) words ≡ b → cond b (rows (located words)) broken ≡ rows xs → rowsWords xs ++ drop (length xs * 6) words ≡ words
+    told true h f =
+        let same : xs ≡ located words = cc in
+        rw (same, located-length words) (words-again words h)
+    told false h f =
+        let z : _≡_ {A = ℕ} 0 1 = cc in
+        absurd (omega arith)
+
+module _ (words : List ℕ) (t : Table) (first : ℕ) (gate : Gate) where
+  -- nothing is replaced, and the count and the words are the old ones
+  abbrev pub Kept : Rewritten → List ℕ → Type 0
+  Kept r later = (r .replaced ≡ 0) × ((r .count ≡ t .count) × (later ≡ words))
+
+  kept : (a b : Rows) → rowsOf words ≡ a → (rewriteRows a t b first gate .number ≡ 0 → ⊥) → Kept (rewriteRows a t b first gate) (rowsAfterwards a t b first gate words)
+  kept broken b e f = (refl, (refl, refl))
+  kept (rows xs) broken e f = told (wellFormed xs t)
+    where
+      told : (c : Bool) → Kept (cond c (unchanged 27 t) (unchanged 26 t)) words
+      told true = (refl, (refl, refl))
+      told false = (refl, (refl, refl))
+  kept (rows xs) (rows ys) e f = told (inReach (length xs) (length ys)) refl
+    where
+      r : Rewritten
+      r = rewriteOf xs t ys first gate
+
+      told : (c : Bool) → inReach (length xs) (length ys) ≡ c → Kept (limited (length xs) (length ys) t r) (cond c (rowsWords (rowsAfter xs t ys first gate) ++ drop (length xs * 6) words) words)
+      told true h =
+          let same : limited (length xs) (length ys) t r ≡ r = limited-in (length xs) (length ys) t r h in
+          let k = refused-kept xs t ys first gate (rw same at f) in
+          rw same (k .0, (k .1 .0, ap (λ (v : List Location). rowsWords v ++ drop (length xs * 6) words) (k .1 .1) ∙ located-rows words xs e))
+      told false h = outside (eqb (r .number) 0) refl
+        where
+          outside : (c : Bool) → eqb (r .number) 0 ≡ c → Kept (limited (length xs) (length ys) t r) words
+          outside true i = rw (limited-21 (length xs) (length ys) t r h i) (refl, (refl, refl))
+          outside false i =
+              let k = refused-kept xs t ys first gate (eqb-false (r .number) 0 i) in
+              rw (limited-same (length xs) (length ys) t r i) (k .0, (k .1 .0, refl))
+
+  -- A refused rewrite changes no word, and answers 0 and the old count.
+  pub refused-words : (incoming : List ℕ) → (rewriteRows (rowsOf words) t (rowsOf incoming) first gate .number ≡ 0 → ⊥)
+      → Kept (rewriteRows (rowsOf words) t (rowsOf incoming) first gate) (rowsAfterwards (rowsOf words) t (rowsOf incoming) first gate words)
+  refused-words incoming = kept (rowsOf words) (rowsOf incoming) refl

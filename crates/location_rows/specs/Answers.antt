@@ -1,0 +1,55 @@
+-- What a rewrite and a fetch answer on rows of words, and the words afterwards: memtable's definitions, of the locations that the rows are.
+-- Assumes nothing.
+use mathlib.Core.Path.{_≡_}
+use Prim.Native.Nat.{ℕ, _*_}
+use mathlib.Core.Bool.{Bool, not, cond, _&&_}
+use mathlib.Core.List.{List, _++_}
+use lib.Dec.{leb, eqb}
+use lib.ListN.{length, drop}
+use Rattle.memtable.specs.declared.Table.{Table}
+use Rattle.memtable.specs.declared.Gate.{Gate}
+use Rattle.memtable.specs.declared.Rewritten.{Rewritten}
+use Rattle.memtable.specs.declared.Fetched.{Fetched}
+use Rattle.memtable.specs.Table.{wellFormed}
+use Rattle.memtable.specs.Rewriting.{unchanged, rewriteOf, rowsAfter}
+use Rattle.memtable.specs.Fetching.{fetchOf}
+use Rattle.location_rows.specs.Words.{Rows, rows, broken, rowsOf, rowsWords}
+
+abbrev pub tableOf : ℕ → ℕ → Table
+tableOf first count = record { first = first; count = count }
+
+-- neither has more than 64 rows
+abbrev pub inReach : ℕ → ℕ → Bool
+inReach n m = leb n 64 && leb m 64
+
+-- an answer that refuses nothing is a 21 where there are more than 64 rows: it comes after every other check
+unfoldable pub limited : ℕ → ℕ → Table → Rewritten → Rewritten
+limited n m t r = cond (eqb (r .number) 0 && not (inReach n m)) (unchanged 21 t) r
+
+unfoldable pub limitedFetch : ℕ → Fetched → Fetched
+limitedFetch n f = cond (eqb (f .number) 0 && not (leb n 64)) (record { number = 21; place = 0; len = 0 }) f
+
+-- a row of the table that is no location's is a 26, an incoming one a 27
+abbrev pub rewriteRows : Rows → Table → Rows → ℕ → Gate → Rewritten
+rewriteRows broken t incoming first gate = unchanged 26 t
+rewriteRows (rows xs) t broken first gate = cond (wellFormed xs t) (unchanged 27 t) (unchanged 26 t)
+rewriteRows (rows xs) t (rows ys) first gate = limited (length xs) (length ys) t (rewriteOf xs t ys first gate)
+
+-- the words of the rows after the rewrite, then what stood there
+abbrev pub rowsAfterwards : Rows → Table → Rows → ℕ → Gate → List ℕ → List ℕ
+rowsAfterwards broken t incoming first gate words = words
+rowsAfterwards (rows xs) t broken first gate words = words
+rowsAfterwards (rows xs) t (rows ys) first gate words =
+    cond (inReach (length xs) (length ys)) (rowsWords (rowsAfter xs t ys first gate) ++ drop (length xs * 6) words) words
+
+abbrev pub fetchRows : Rows → Table → ℕ → Fetched
+fetchRows broken t gate = record { number = 26; place = 0; len = 0 }
+fetchRows (rows xs) t gate = limitedFetch (length xs) (fetchOf xs t gate)
+
+-- the answer r to a rewrite of the words of a table, and their later contents
+pub record RowsRewritten (words : List ℕ) (t : Table) (incoming : List ℕ) (first : ℕ) (gate : Gate) (r : Rewritten) (later : List ℕ) : Type 0 where
+  pub answer : r ≡ rewriteRows (rowsOf words) t (rowsOf incoming) first gate
+  pub after : later ≡ rowsAfterwards (rowsOf words) t (rowsOf incoming) first gate words
+
+unfoldable pub fetchWords : List ℕ → Table → ℕ → Fetched
+fetchWords words t gate = fetchRows (rowsOf words) t gate

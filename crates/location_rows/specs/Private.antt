@@ -1,0 +1,25 @@
+-- What the contracts of private functions cite: no public contract does.
+-- Assumes nothing.
+use Prim.Native.Nat.{ℕ}
+use mathlib.Core.Bool.{Bool, _&&_}
+use mathlib.Core.List.{List}
+use Rattle.pipe_log.specs.declared.Location.{Location}
+use Rattle.memtable.specs.declared.Table.{Table}
+use Rattle.memtable.specs.Table.{wellFormed, ready}
+use Rattle.location_rows.specs.Words.{queueOf, rowCount, areRows, locations}
+
+-- a row as far as a stop looks at it
+abbrev pub rowStart : ℕ → ℕ → Location
+rowStart queue seq = record { queue = queueOf queue; seq = seq; offset = 0; len = 0; «entry_offset» = 0; «entry_len» = 0 }
+
+-- the locations that the words are
+abbrev pub located : List ℕ → List Location
+located words = locations (rowCount words) words
+
+-- each row is a location's, and the table is well formed
+unfoldable pub formedWords : List ℕ → Table → Bool
+formedWords words t = areRows (rowCount words) words && wellFormed (located words) t
+
+-- each row is a location's, and the rows are taken
+unfoldable pub readyWords : List ℕ → ℕ → Bool
+readyWords words first = areRows (rowCount words) words && ready (located words) first

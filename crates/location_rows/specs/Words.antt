@@ -1,0 +1,70 @@
+-- How a location stands in a row of six words: queue, file number, block place, block length, entry offset, entry length. The layout is that of
+-- raft_log.h.
+-- Assumes nothing.
+use Prim.Native.Nat.{ℕ, zero, suc, _/_}
+use mathlib.Core.Bool.{Bool, true, _&&_, cond}
+use mathlib.Core.List.{List, [], _∷_, _++_}
+use lib.Dec.{leb}
+use lib.ListN.{length, getD, drop}
+use Rattle.pipe_log.specs.declared.Location.{Location}
+use Rattle.pipe_log.specs.declared.LogQueue.{LogQueue}
+
+-- ---- from words to locations
+
+-- 0 append, 1 rewrite
+abbrev pub queueOf : ℕ → LogQueue
+queueOf zero = LogQueue.Append
+queueOf (suc q) = LogQueue.Rewrite
+
+-- a queue, and an entry offset and length of 32 bits
+unfoldable pub isRow : ℕ → ℕ → ℕ → Bool
+isRow queue offset len = leb queue 1 && (leb offset 4294967295 && leb len 4294967295)
+
+-- the row that the words begin with: whether it is one, and its location if so
+abbrev pub startsWell : List ℕ → Bool
+startsWell words = isRow (getD words 0 0) (getD words 4 0) (getD words 5 0)
+
+abbrev pub rowOf : List ℕ → Location
+rowOf words =
+    record {
+      queue = queueOf (getD words 0 0);
+      seq = getD words 1 0;
+      offset = getD words 2 0;
+      len = getD words 3 0;
+      «entry_offset» = getD words 4 0;
+      «entry_len» = getD words 5 0;
+    }
+
+-- the same of n rows
+abbrev pub areRows : ℕ → List ℕ → Bool
+areRows zero words = true
+areRows (suc n) words = startsWell words && areRows n (drop 6 words)
+
+abbrev pub locations : ℕ → List ℕ → List Location
+locations zero words = []
+locations (suc n) words = rowOf words ∷ locations n (drop 6 words)
+
+-- how many rows the words make up; what is left over is not looked at
+abbrev pub rowCount : List ℕ → ℕ
+rowCount words = length words / 6
+
+pub data Rows : Type 0 where
+  rows : List Location → Rows
+  broken : Rows
+
+-- the rows, or one of them is no location's
+unfoldable pub rowsOf : List ℕ → Rows
+rowsOf words = cond (areRows (rowCount words) words) (rows (locations (rowCount words) words)) broken
+
+-- ---- from locations to words
+
+abbrev pub queueWord : LogQueue → ℕ
+queueWord LogQueue.Append = 0
+queueWord LogQueue.Rewrite = 1
+
+abbrev pub rowWords : Location → List ℕ
+rowWords row = queueWord (row .queue) ∷ row .seq ∷ row .offset ∷ row .len ∷ row .«entry_offset» ∷ row .«entry_len» ∷ []
+
+abbrev pub rowsWords : List Location → List ℕ
+rowsWords [] = []
+rowsWords (row ∷ more) = rowWords row ++ rowsWords more

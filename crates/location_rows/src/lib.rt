@@ -1,0 +1,211 @@
+// The rewrite and the fetch of locations, on rows of six words that the caller lends: queue (0 append, 1 rewrite), file number, block place,
+// block length, entry offset, entry length. Words that do not make up a whole row at the end are not looked at and not written.
+ghost use mathlib.Core.Path.{_≡_};
+ghost use Prim.Native.Nat.{_+_, _-_, _≤_};
+ghost use lib.ListN.{length, take, drop};
+ghost use lib.Seq.{paste};
+ghost use Rattle.memtable.specs.Rows.{stopsAt, runOf};
+ghost use Rattle.location_rows.specs.Words.{rowCount, queueOf, isRow, areRows};
+ghost use Rattle.location_rows.specs.Answers.{tableOf, limited, RowsRewritten, fetchWords};
+ghost use Rattle.location_rows.specs.Private.{rowStart, located, formedWords, readyWords};
+use memtable::Fetched;
+use memtable::Gate;
+use memtable::Rewritten;
+use memtable::Stop;
+use memtable::Table;
+use pipe_log::Location;
+use pipe_log::LogQueue;
+
+// Replaces the rows that overlap the incoming ones. More than 64 rows of either: 21, after every other check. A refused rewrite changes no
+// word, and answers 0 and the old count.
+pub fn rewrite(
+    table: &mut [u64],
+    first_index: u64,
+    rewritten: u64,
+    incoming: &[u64],
+    incoming_first: u64,
+    gate: Gate,
+) -> Rewritten
+    ensures { λ r. ⌜ RowsRewritten (now (table .entry)) (tableOf «first_index» rewritten) (now (incoming .entry)) «incoming_first» gate r (now (table .exit)) ⌝ }
+{
+    let t = Table {
+        first: first_index,
+        count: rewritten as usize,
+    };
+    let n = table.len() / 6;
+    let m = incoming.len() / 6;
+    let good = is_well_formed(table, t);
+    let ready = is_ready(incoming, incoming_first);
+    let over = memtable::overlap_of(first_index, n, incoming_first, m);
+    let stop = memtable::stop_of(gate);
+    let end = scan(table, over.start, over.end, stop);
+    let decided = memtable::decide(good, ready, t, over, end, gate);
+    let answer = limit(n, m, t, decided);
+    replace(
+        table,
+        incoming,
+        over.start * 6,
+        over.from * 6,
+        answer.replaced * 6,
+    );
+    answer
+}
+
+// The longest run of rows from the rewritten count on with file number at most the gate. More than 64 rows: 21, after 26.
+pub fn fetch(table: &[u64], first_index: u64, rewritten: u64, gate: u64) -> Fetched
+    ensures { λ r. ⌜ r ≡ fetchWords (now (table .entry)) (tableOf «first_index» rewritten) gate ⌝ }
+{
+    let t = Table {
+        first: first_index,
+        count: rewritten as usize,
+    };
+    let n = table.len() / 6;
+    let count = t.count;
+    if !is_well_formed(table, t) {
+        return memtable::run_from(false, t, 0, 0);
+    }
+    if 64 < n {
+        return Fetched {
+            number: refusal::OUTPUT_SHORT,
+            place: 0,
+            len: 0,
+        };
+    }
+    let end = scan(table, count, n, Stop::Above(gate));
+    memtable::run_from(true, t, count, end)
+}
+
+// Whether each row is a location's, and the table is well formed.
+fn is_well_formed(words: &[u64], table: Table) -> bool
+    ensures { λ r. ⌜ r ≡ formedWords (now (words .entry)) table ⌝ }
+{
+    let n = words.len() / 6;
+    let count = table.count;
+    if !are_rows(words) {
+        return false;
+    }
+    if n < count {
+        return false;
+    }
+    let front = scan(words, 0, count, Stop::Append);
+    let back = scan(words, count, n, Stop::Rewrite);
+    memtable::is_formed(table, n, front, back)
+}
+
+// Whether each incoming row is a location's, and they are taken.
+fn is_ready(words: &[u64], first: u64) -> bool
+    ensures { λ r. ⌜ r ≡ readyWords (now (words .entry)) first ⌝ }
+{
+    let n = words.len() / 6;
+    if !are_rows(words) {
+        return false;
+    }
+    let last = scan(words, 0, n, Stop::Append);
+    memtable::is_ready(last, n, first)
+}
+
+// Whether each row is a location's.
+fn are_rows(words: &[u64]) -> bool
+    ensures { λ r. ⌜ r ≡ areRows (rowCount (now (words .entry))) (now (words .entry)) ⌝ }
+{
+    let n = words.len() / 6;
+    let mut i: usize = 0;
+    while i < n {
+        let at = i * 6;
+        if !is_row(words[at], words[at + 4], words[at + 5]) {
+            return false;
+        }
+        i = i + 1;
+    }
+    true
+}
+
+fn is_row(queue: u64, offset: u64, len: u64) -> bool
+    ensures { λ r. ⌜ r ≡ isRow queue offset len ⌝ }
+{
+    if 1 < queue {
+        return false;
+    }
+    if 4294967295 < offset {
+        return false;
+    }
+    len <= 4294967295
+}
+
+// Where the first row that stops the run stands, from lo on and before hi, or hi.
+fn scan(words: &[u64], lo: usize, hi: usize, stop: Stop) -> usize
+    requires { ⌜ (lo ≤ hi) × (hi ≤ rowCount (now words)) ⌝ }
+    ensures { λ r. ⌜ r ≡ lo + runOf stop (take (hi - lo) (drop lo (located (now (words .entry))))) ⌝ }
+{
+    let mut i: usize = lo;
+    while i < hi {
+        let at = i * 6;
+        if stops(words[at], words[at + 1], stop) {
+            break;
+        }
+        i = i + 1;
+    }
+    i
+}
+
+// Whether the row of this queue and file number ends the run.
+fn stops(queue: u64, seq: u64, stop: Stop) -> bool
+    ensures { λ r. ⌜ r ≡ stopsAt stop (rowStart queue seq) ⌝ }
+{
+    let row = Location {
+        queue: queue_of(queue),
+        seq,
+        offset: 0,
+        len: 0,
+        entry_offset: 0,
+        entry_len: 0,
+    };
+    memtable::stops(row, stop)
+}
+
+fn queue_of(queue: u64) -> LogQueue
+    ensures { λ r. ⌜ r ≡ queueOf queue ⌝ }
+{
+    if queue == 0 {
+        return LogQueue::Append;
+    }
+    LogQueue::Rewrite
+}
+
+// The answer for n rows and m incoming ones.
+fn limit(n: usize, m: usize, table: Table, r: Rewritten) -> Rewritten
+    ensures { λ a. ⌜ a ≡ limited n m table r ⌝ }
+{
+    if r.number != refusal::NONE {
+        return r;
+    }
+    if 64 < n {
+        return too_many(table.count);
+    }
+    if 64 < m {
+        return too_many(table.count);
+    }
+    r
+}
+
+fn too_many(count: usize) -> Rewritten
+    ensures { λ a. ⌜ a ≡ record { number = 21; replaced = 0; count = count } ⌝ }
+{
+    Rewritten {
+        number: refusal::OUTPUT_SHORT,
+        replaced: 0,
+        count,
+    }
+}
+
+// Puts len incoming words, those from `from` on, in the place of the words from `at` on.
+fn replace(words: &mut [u64], incoming: &[u64], at: usize, from: usize, len: usize)
+    requires { ⌜ (at + len ≤ length (now words)) × (from + len ≤ length (now incoming)) ⌝ }
+    ensures { λ _. ⌜ now (words .exit) ≡ paste (now (words .entry)) at (drop from (now (incoming .entry))) len ⌝ }
+{
+    let mut i: usize = 0;
+    while i < len {
+        words[at + i] = incoming[from + i];
+        i = i + 1;
+    }
+}

@@ -1,0 +1,5 @@
+pub mod Replies
+pub mod RowsReplies
+pub mod RowsWrites
+pub mod Determined
+pub mod LocationReplies

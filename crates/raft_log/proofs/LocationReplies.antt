@@ -1,0 +1,18 @@
+-- What is replied for the answers of a rewrite: a law for each way out of the code.
+-- Assumes nothing.
+use Prim.Native.Nat.{ℕ}
+use mathlib.Core.Path.{_≡_, refl, ap}
+use mathlib.Core.Bool.{Bool, true}
+use mathlib.Core.List.{List}
+use Rattle.memtable.specs.declared.Table.{Table}
+use Rattle.memtable.specs.declared.Gate.{Gate}
+use Rattle.memtable.specs.declared.Rewritten.{Rewritten}
+use Rattle.location_rows.specs.Answers.{RowsRewritten}
+use Rattle.raft_log.specs.Locations.{gateOf, rewriteReply, RewriteReplied}
+
+pub gate-given : (given : Bool) {gate : ℕ} → given ≡ true → Gate.Given gate ≡ gateOf given gate
+gate-given given e = rw e refl
+
+pub rewrite-replied : {words : List ℕ} {t : Table} {incoming : List ℕ} {first : ℕ} {gate g : Gate} {r : Rewritten} {later : List ℕ}
+    → g ≡ gate → RowsRewritten words t incoming first g r later → RewriteReplied words t incoming first gate (rewriteReply r) later
+rewrite-replied e w = rw (← e) (record { answer = ap rewriteReply (w .answer); after = w .after })

@@ -1,0 +1,75 @@
+-- What is replied for each answer of a call: a law for each way out of the code.
+-- Assumes nothing.
+use Prim.Native.Nat.{ℕ, zero, suc}
+use mathlib.Core.Path.{_≡_, refl, sym, ap, _∙_}
+use mathlib.Core.List.{List, [], _∷_}
+use borrow.Author.Tests.{ne-eqb}
+use lib.ListN.{getD}
+use Rattle.log_item.specs.declared.LogItem.{LogItem}
+use Rattle.item_row.specs.declared.RowRead.{RowRead}
+use Rattle.item_row.specs.declared.RowRead.the-variants.{Item, Refused}
+use Rattle.item_row.specs.Row.{rowItem, rowAt}
+use Rattle.log_batch.specs.declared.AtomicGroupStatus.{AtomicGroupStatus}
+use Rattle.log_batch.specs.declared.StatusRead.{StatusRead}
+use Rattle.log_batch.specs.declared.StatusRead.the-variants.{Mark}
+use Rattle.log_batch.specs.Status.{statusOf}
+use Rattle.log_batch.specs.View.{entryCheck}
+use Rattle.raft_log.specs.Reply.{Reply, reply}
+use Rattle.raft_log.specs.Answers.{queueCheck, viewReply, viewOf, markOf, statusReply, rowStatus}
+
+-- A call's result r, promised to be m and known to be d, is replied as m is.
+pub told : {R : Type 0} (f : R → Reply) {r d m : R} → r ≡ m → r ≡ d → f d ≡ f m
+told f e k = ap f (sym k ∙ e)
+
+-- A mark and its group are replied.
+pub marked : {s : StatusRead} {group m : ℕ} {mark : AtomicGroupStatus} → s ≡ Mark group mark → m ≡ markOf mark → reply 0 (m ∷ group ∷ []) ≡ statusReply s
+marked e h = rw (e, h)
+
+-- ---- the block that a queue names
+
+module _ (queue long offset len : ℕ) (append rewrite : List ℕ) where
+  pub queue-append : {r : ℕ} → queue ≡ 0 → r ≡ entryCheck long offset len append → r ≡ queueCheck queue long offset len append rewrite
+  unfolding queueCheck
+  queue-append e f = rw e f
+
+  module _ (some : queue ≡ 0 → ⊥) where
+    pub queue-rewrite : {r : ℕ} → queue ≡ 1 → r ≡ entryCheck long offset len rewrite → r ≡ queueCheck queue long offset len append rewrite
+    unfolding queueCheck
+    queue-rewrite e f = rw e f
+
+    pub queue-none : (queue ≡ 1 → ⊥) → 26 ≡ queueCheck queue long offset len append rewrite
+    unfolding queueCheck
+    queue-none h = rw (ne-eqb _ _ some, ne-eqb _ _ h)
+
+-- ---- a location row
+
+view-no : (n offset len : ℕ) → (n ≡ 0 → ⊥) → reply n (0 ∷ 0 ∷ []) ≡ viewReply n offset len
+view-no zero offset len h = absurd (h refl)
+view-no (suc n) offset len h = refl
+
+module _ (row append rewrite : List ℕ) {n : ℕ}
+    (e : n ≡ queueCheck (getD row 0 0) (getD row 3 0) (getD row 4 0) (getD row 5 0) append rewrite) where
+  pub view-refused : (n ≡ 0 → ⊥) → reply n (0 ∷ 0 ∷ []) ≡ viewOf row append rewrite
+  unfolding viewOf
+  view-refused h = rw (← e) (view-no n (getD row 4 0) (getD row 5 0) h)
+
+  pub view-good : n ≡ 0 → reply n (getD row 4 0 ∷ getD row 5 0 ∷ []) ≡ viewOf row append rewrite
+  unfolding viewOf
+  view-good h = rw (← e, h)
+
+-- ---- an item row
+
+module _ (row store : List ℕ) {r : RowRead}
+    (e : r ≡ rowItem (getD row 0 0) (getD row 1 0) (getD row 2 0) (getD row 3 0) (getD row 4 0) (getD row 5 0) (getD row 6 0)) where
+  first-row : r ≡ rowAt row 0
+  unfolding rowAt
+  first-row = e
+
+  pub row-refused : {n : ℕ} → r ≡ Refused n → reply n (0 ∷ 0 ∷ []) ≡ rowStatus (rowAt row 0) store
+  unfolding rowStatus
+  row-refused h = rw (sym first-row ∙ h)
+
+  pub row-marked : {x : LogItem} {a : Reply} {s : StatusRead} → r ≡ Item x → s ≡ statusOf x (x .content) store → a ≡ statusReply s
+      → a ≡ rowStatus (rowAt row 0) store
+  unfolding rowStatus
+  row-marked h k f = rw (sym first-row ∙ h) (f ∙ ap statusReply k)

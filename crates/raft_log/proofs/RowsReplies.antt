@@ -1,0 +1,47 @@
+-- What is replied for a reading into lent rows.
+-- Assumes nothing.
+use Prim.Native.Nat.{ℕ}
+use mathlib.Core.Path.{_≡_, refl, sym, ap, _∙_}
+use mathlib.Core.List.{List, [], _∷_}
+use Rattle.refusal.specs.declared.Refusal.{Refusal}
+use Rattle.log_item.specs.declared.Span.{Span}
+use Rattle.item_batch.specs.declared.BodyCheck.{BodyCheck}
+use Rattle.item_batch.specs.declared.BodyCheck.the-variants.{Accepted, Refused}
+use Rattle.item_batch.specs.Reading.{Answer}
+use Rattle.rows_reader.specs.Lent.{RowsRead}
+use Rattle.log_batch.specs.declared.BatchCheck.{BatchCheck}
+use Rattle.log_batch.specs.Batch.{sealedBatch}
+use Rattle.log_batch.specs.Rows.{bodyPlace, blockPlace, placeIf, BatchRead}
+use Rattle.raft_log.specs.Reply.{Reply, reply}
+use Rattle.raft_log.specs.Answers.{checkReply}
+use Rattle.raft_log.specs.RowsRead.{RowsReplied, batchReply, BatchReplied}
+
+pub rows-replied : {a : Answer} {items entries later more : List ℕ} {c : BodyCheck} {r : Reply} → RowsRead a items entries c later more → r ≡ checkReply c
+    → RowsReplied a items entries r later more
+rows-replied w e = record { answer = e ∙ ap checkReply (w .answer); item-rows = w .item-rows; entry-rows = w .entry-rows }
+
+-- ---- a batch
+
+pub batch-accepted : {c : BodyCheck} {m n u q : ℕ} (body block : Span) → c ≡ Accepted m n u q
+    → reply 0 (0 ∷ m ∷ n ∷ u ∷ q ∷ body .at ∷ body .len ∷ block .at ∷ block .len ∷ []) ≡ batchReply c body block
+batch-accepted body block e = rw e
+
+pub batch-refused : {c : BodyCheck} {r : Refusal} (body block : Span) → c ≡ Refused r
+    → reply (r .number) (r .item ∷ 0 ∷ 0 ∷ 0 ∷ 0 ∷ 0 ∷ 0 ∷ 0 ∷ 0 ∷ []) ≡ batchReply c body block
+batch-refused body block e = rw e
+
+-- Places that are stated where the batch is accepted are replied as such.
+places : (c : BodyCheck) (body block : Span) → batchReply c (placeIf c body) (placeIf c block) ≡ batchReply c body block
+places (Accepted m n u q) body block = refl
+places (Refused r) body block = refl
+
+pub batch-replied : {s : List ℕ} {signature : ℕ} {items entries later more : List ℕ} {b : BatchCheck} {r : Reply}
+    → BatchRead s signature items entries b later more → r ≡ batchReply (b .check) (b .body) (b .block) → BatchReplied s signature items entries r later more
+batch-replied {s} {signature} {b = b} w e =
+    let g = sealedBatch s signature 0 in
+    record {
+      answer =
+          e ∙ (rw (w .body, w .block) (places (b .check) (bodyPlace g) (blockPlace g))) ∙ ap (λ (c : BodyCheck). batchReply c (bodyPlace g) (blockPlace g)) (w .rows .answer);
+      item-rows = w .rows .item-rows;
+      entry-rows = w .rows .entry-rows;
+    }

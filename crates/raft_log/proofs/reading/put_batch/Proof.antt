@@ -1,0 +1,25 @@
+-- `raft_log::reading::put_batch` meets its contract.
+-- Assumes nothing.
+use Rattle.raft_log.proofs.RowsReplies.{batch-accepted, batch-refused}
+use borrow.Author.Needs.{needs}
+use Rattle.raft_log.proofs.reading.put_batch.Statement.{statement}
+use Rattle.raft_log.proofs.reading.put_batch.Tie as tie
+
+enum-known-check : tie.Need-enum-known-check
+enum-known-check c = search needs
+
+cast-t14 : tie.Need-cast-t14
+cast-t14 c = search needs
+
+enum-known-check-2 : tie.Need-enum-known-check-2
+enum-known-check-2 c = search needs
+
+returns : tie.Need-returns
+returns c = batch-accepted _ _ (c .before .before .check .given .1)
+
+returns-2 : tie.Need-returns-2
+returns-2 c = batch-refused _ _ (c .before .before .check2 .given .1)
+
+pub put-batch-spec : {M : Type 1} → statement M
+put-batch-spec =
+    tie.close (tie.spec enum-known-check cast-t14 enum-known-check-2 returns returns-2)

@@ -1,0 +1,22 @@
+-- `raft_log::writing::raft_log_write_body` meets its contract.
+-- Assumes nothing.
+use Rattle.raft_log.proofs.RowsWrites.{body-replied}
+use borrow.Author.Needs.{needs}
+use Rattle.raft_log.proofs.writing.raft_log_write_body.Statement.{statement}
+use Rattle.raft_log.proofs.writing.raft_log_write_body.Tie as tie
+
+encode-rows-requires : tie.Need-encode-rows-requires
+encode-rows-requires c κs = search needs
+
+put-written-requires : tie.Need-put-written-requires
+put-written-requires c κs = search needs
+
+same-length : tie.Need-same-length
+same-length c = search needs
+
+returns : tie.Need-returns
+returns c = body-replied (c .before .before .before .before .encode-rows .ensures) (c .put-written .ensures)
+
+pub raft-log-write-body-spec : {M : Type 1} → statement M
+raft-log-write-body-spec =
+    tie.close (tie.spec encode-rows-requires put-written-requires same-length returns)

@@ -1,0 +1,85 @@
+-- The reply for each answer of the crates below: what is refused has its number, and no words but the item.
+-- Assumes nothing.
+use Prim.Native.Nat.{ℕ, zero, suc}
+use mathlib.Core.Bool.{cond}
+use mathlib.Core.List.{List, [], _∷_}
+use lib.Dec.{eqb}
+use lib.ListN.{getD}
+use Rattle.codec.specs.declared.NumberRead.{NumberRead}
+use Rattle.codec.specs.declared.NumberRead.the-variants as number
+use Rattle.codec.specs.declared.Wrote.{Wrote}
+use Rattle.codec.specs.declared.Wrote.the-variants as wrote
+use Rattle.log_item.specs.Got.{Got, got, refused}
+use Rattle.item_row.specs.declared.RowRead.{RowRead}
+use Rattle.item_row.specs.declared.RowRead.the-variants as row
+use Rattle.item_batch.specs.declared.BodyCheck.{BodyCheck}
+use Rattle.item_batch.specs.declared.BodyCheck.the-variants as check
+use Rattle.item_batch.specs.declared.PlainForm.{PlainForm}
+use Rattle.item_batch.specs.declared.PlainForm.the-variants as plain
+use Rattle.log_batch.specs.declared.LogBatch.{LogBatch}
+use Rattle.log_batch.specs.declared.AtomicGroupStatus.{AtomicGroupStatus}
+use Rattle.log_batch.specs.declared.AtomicGroupStatus.the-variants.{Begin, Middle, End}
+use Rattle.log_batch.specs.declared.StatusRead.{StatusRead}
+use Rattle.log_batch.specs.declared.StatusRead.the-variants as status
+use Rattle.log_batch.specs.Status.{statusOf}
+use Rattle.log_batch.specs.View.{entryCheck}
+use Rattle.raft_log.specs.Reply.{Reply, reply}
+
+-- the number, the place after it
+abbrev pub numberReply : NumberRead → Reply
+numberReply (number.Done n next) = reply 0 (n ∷ next ∷ [])
+numberReply number.Eof = reply 7 (0 ∷ 0 ∷ [])
+numberReply number.Overflow = reply 7 (0 ∷ 0 ∷ [])
+
+-- the place after what was written
+abbrev pub wroteReply : Wrote → Reply
+wroteReply (wrote.Next next) = reply 0 (next ∷ [])
+wroteReply wrote.NoRoom = reply 21 (0 ∷ [])
+
+-- offset, length, compression type
+abbrev pub headerReply : Got LogBatch → Reply
+headerReply (got h q) = reply 0 (h .offset ∷ h .len ∷ h .compression ∷ [])
+headerReply (refused r) = reply r (0 ∷ 0 ∷ 0 ∷ [])
+
+-- item of a refusal, items, entries, entry total, place after the last item
+abbrev pub checkReply : BodyCheck → Reply
+checkReply (check.Accepted items entries total next) = reply 0 (0 ∷ items ∷ entries ∷ total ∷ next ∷ [])
+checkReply (check.Refused r) = reply (r .number) (r .item ∷ 0 ∷ 0 ∷ 0 ∷ 0 ∷ [])
+
+-- item of a refusal, 1 yes or 0 no
+abbrev pub plainReply : PlainForm → Reply
+plainReply plain.Yes = reply 0 (0 ∷ 1 ∷ [])
+plainReply plain.No = reply 0 (0 ∷ 0 ∷ [])
+plainReply (plain.Refused r) = reply (r .number) (r .item ∷ 0 ∷ [])
+
+-- the check of an entry against the block that the queue names; a queue above 1 names none
+unfoldable pub queueCheck : ℕ → ℕ → ℕ → ℕ → List ℕ → List ℕ → ℕ
+queueCheck queue long offset len append rewrite =
+    cond (eqb queue 0) (entryCheck long offset len append) (cond (eqb queue 1) (entryCheck long offset len rewrite) 26)
+
+-- place, length
+abbrev pub viewReply : ℕ → ℕ → ℕ → Reply
+viewReply zero offset len = reply 0 (offset ∷ len ∷ [])
+viewReply (suc r) offset len = reply (suc r) (0 ∷ 0 ∷ [])
+
+-- a location row: queue, file number, block place, block length, entry offset, entry length
+unfoldable pub viewOf : List ℕ → List ℕ → List ℕ → Reply
+viewOf row append rewrite =
+    viewReply (queueCheck (getD row 0 0) (getD row 3 0) (getD row 4 0) (getD row 5 0) append rewrite) (getD row 4 0) (getD row 5 0)
+
+-- 1 begin, 2 middle, 3 end
+abbrev pub markOf : AtomicGroupStatus → ℕ
+markOf Begin = 1
+markOf Middle = 2
+markOf End = 3
+
+-- the mark, or 0, and the group
+abbrev pub statusReply : StatusRead → Reply
+statusReply (status.Mark group mark) = reply 0 (markOf mark ∷ group ∷ [])
+statusReply status.NoMark = reply 0 (0 ∷ 0 ∷ [])
+statusReply (status.Refused r) = reply (r .number) (0 ∷ 0 ∷ [])
+
+-- of a row that may spell no item
+unfoldable pub rowStatus : RowRead → List ℕ → Reply
+rowStatus (row.Item x) store = statusReply (statusOf x (x .content) store)
+rowStatus (row.Refused r) store = reply r (0 ∷ 0 ∷ [])

@@ -1,0 +1,5 @@
+pub mod Reply
+pub mod Answers
+pub mod RowsRead
+pub mod RowsWritten
+pub mod Locations

@@ -1,0 +1,37 @@
+-- The replies of the readings into lent rows, and what the rows hold afterwards.
+-- Assumes nothing.
+use Prim.Native.Nat.{ℕ}
+use mathlib.Core.Path.{_≡_}
+use mathlib.Core.List.{List, [], _∷_}
+use lib.ListN.{length}
+use Rattle.log_item.specs.declared.Span.{Span}
+use Rattle.item_batch.specs.declared.BodyCheck.{BodyCheck}
+use Rattle.item_batch.specs.declared.BodyCheck.the-variants.{Accepted, Refused}
+use Rattle.item_batch.specs.Reading.{Answer}
+use Rattle.item_batch.specs.Answers.{checkOf}
+use Rattle.rows_reader.specs.Lent.{fitting, itemsAfter, entriesAfter}
+use Rattle.log_batch.specs.Batch.{sealedBatch}
+use Rattle.log_batch.specs.Rows.{batchAnswer, bodyPlace, blockPlace}
+use Rattle.raft_log.specs.Reply.{Reply, reply}
+use Rattle.raft_log.specs.Answers.{checkReply}
+
+-- the reply r to a reading that comes to a, and the later contents of the rows that are lent
+pub record RowsReplied (a : Answer) (items entries : List ℕ) (r : Reply) (later more : List ℕ) : Type 0 where
+  pub answer : r ≡ checkReply (checkOf (fitting (length items) (length entries) a))
+  pub item-rows : later ≡ itemsAfter (fitting (length items) (length entries) a) items
+  pub entry-rows : more ≡ entriesAfter (fitting (length items) (length entries) a) entries
+
+-- as for a body, and place and length of the body and of the block
+abbrev pub batchReply : BodyCheck → Span → Span → Reply
+batchReply (Accepted items entries total next) body block =
+    reply 0 (0 ∷ items ∷ entries ∷ total ∷ next ∷ body .at ∷ body .len ∷ block .at ∷ block .len ∷ [])
+batchReply (Refused r) body block = reply (r .number) (r .item ∷ 0 ∷ 0 ∷ 0 ∷ 0 ∷ 0 ∷ 0 ∷ 0 ∷ 0 ∷ [])
+
+abbrev pub batchFitting : List ℕ → ℕ → List ℕ → List ℕ → Answer
+batchFitting s signature items entries = fitting (length items) (length entries) (batchAnswer s (sealedBatch s signature 0))
+
+-- the reply r to the reading of a batch
+pub record BatchReplied (s : List ℕ) (signature : ℕ) (items entries : List ℕ) (r : Reply) (later more : List ℕ) : Type 0 where
+  pub answer : r ≡ batchReply (checkOf (batchFitting s signature items entries)) (bodyPlace (sealedBatch s signature 0)) (blockPlace (sealedBatch s signature 0))
+  pub item-rows : later ≡ itemsAfter (batchFitting s signature items entries) items
+  pub entry-rows : more ≡ entriesAfter (batchFitting s signature items entries) entries

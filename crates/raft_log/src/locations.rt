@@ -1,0 +1,51 @@
+// The rewrite and the fetch of locations, on rows of words that the caller lends.
+ghost use mathlib.Core.Path.{_≡_};
+ghost use Rattle.location_rows.specs.Answers.{tableOf, fetchWords};
+ghost use Rattle.raft_log.specs.Reply.{reply};
+ghost use Rattle.raft_log.specs.Locations.{gateOf, fetchReply, RewriteReplied};
+use memtable::Gate;
+
+// Replaces rows of a location table by incoming ones.
+#[no_mangle]
+pub extern "C" fn raft_log_rewrite(
+    table: &mut [u64],
+    first_index: u64,
+    rewritten: u64,
+    incoming: &[u64],
+    incoming_first: u64,
+    with_gate: bool,
+    gate: u64,
+    answer: &mut [u64; 2],
+) -> u32
+    ensures { λ r. ⌜ RewriteReplied (now (table .entry)) (tableOf «first_index» rewritten) (now (incoming .entry)) «incoming_first» (gateOf «with_gate» gate) (reply r (now (answer .exit))) (now (table .exit)) ⌝ }
+{
+    let g = gate_of(with_gate, gate);
+    let r = location_rows::rewrite(table, first_index, rewritten, incoming, incoming_first, g);
+    *answer = [r.replaced as u64, r.count as u64];
+    r.number
+}
+
+fn gate_of(with_gate: bool, gate: u64) -> Gate
+    ensures { λ r. ⌜ r ≡ gateOf «with_gate» gate ⌝ }
+{
+    if with_gate {
+        return Gate::Given(gate);
+    }
+    Gate::None
+}
+
+// The longest run of rows from the rewritten count on whose file number is at most the gate.
+#[no_mangle]
+pub extern "C" fn raft_log_fetch(
+    table: &[u64],
+    first_index: u64,
+    rewritten: u64,
+    gate: u64,
+    answer: &mut [u64; 2],
+) -> u32
+    ensures { λ r. ⌜ reply r (now (answer .exit)) ≡ fetchReply (fetchWords (now (table .entry)) (tableOf «first_index» rewritten) gate) ⌝ }
+{
+    let r = location_rows::fetch(table, first_index, rewritten, gate);
+    *answer = [r.place as u64, r.len as u64];
+    r.number
+}

@@ -1,0 +1,88 @@
+// Bodies and batches, read into rows of words that the caller lends.
+ghost use mathlib.Core.Path.{_≡_};
+ghost use Rattle.log_item.specs.declared.Form.the-variants.{Any};
+ghost use Rattle.item_batch.specs.Reading.{readItems};
+ghost use Rattle.item_batch.specs.Body.{readBody};
+ghost use Rattle.raft_log.specs.Reply.{reply};
+ghost use Rattle.raft_log.specs.RowsRead.{RowsReplied, batchReply, BatchReplied};
+use crate::put_check;
+use item_batch::BodyCheck;
+use item_batch::Wanted;
+use log_batch::BatchCheck;
+
+// A body, read into rows.
+#[no_mangle]
+pub extern "C" fn raft_log_read_body(
+    body: &[u8],
+    signature: u32,
+    items: &mut [u64],
+    entries: &mut [u64],
+    answer: &mut [u64; 5],
+) -> u32
+    ensures { λ r. ⌜ RowsReplied (readBody (now (body .entry)) signature) (now (items .entry)) (now (entries .entry)) (reply r (now (answer .exit))) (now (items .exit)) (now (entries .exit)) ⌝ }
+{
+    let r = rows_reader::read_body(body, signature, items, entries);
+    put_check(r, answer)
+}
+
+// A body without its footer, read into rows.
+#[no_mangle]
+pub extern "C" fn raft_log_read_items(
+    body: &[u8],
+    items: &mut [u64],
+    entries: &mut [u64],
+    answer: &mut [u64; 5],
+) -> u32
+    ensures { λ r. ⌜ RowsReplied (readItems Any (now (body .entry))) (now (items .entry)) (now (entries .entry)) (reply r (now (answer .exit))) (now (items .exit)) (now (entries .exit)) ⌝ }
+{
+    let r = rows_reader::read_items(body, Wanted::Free, items, entries);
+    put_check(r, answer)
+}
+
+// A whole batch, read into rows.
+#[no_mangle]
+pub extern "C" fn raft_log_read_batch(
+    data: &[u8],
+    signature: u32,
+    items: &mut [u64],
+    entries: &mut [u64],
+    answer: &mut [u64; 9],
+) -> u32
+    ensures { λ r. ⌜ BatchReplied (now («data» .entry)) signature (now (items .entry)) (now (entries .entry)) (reply r (now (answer .exit))) (now (items .exit)) (now (entries .exit)) ⌝ }
+{
+    let r = log_batch::read_rows(data, signature, items, entries);
+    put_batch(r, answer)
+}
+
+fn put_batch(batch: BatchCheck, answer: &mut [u64; 9]) -> u32
+    ensures { λ r. ⌜ reply r (now (answer .exit)) ≡ batchReply (batch .check) (batch .body) (batch .block) ⌝ }
+{
+    let check = batch.check;
+    let body = batch.body;
+    let block = batch.block;
+    match check {
+        BodyCheck::Accepted {
+            items,
+            entries,
+            total,
+            next,
+        } => {
+            *answer = [
+                0,
+                items as u64,
+                entries as u64,
+                total as u64,
+                next as u64,
+                body.at as u64,
+                body.len as u64,
+                block.at as u64,
+                block.len as u64,
+            ];
+            refusal::NONE
+        }
+        BodyCheck::Refused(refusal) => {
+            *answer = [refusal.item as u64, 0, 0, 0, 0, 0, 0, 0, 0];
+            refusal.number
+        }
+    }
+}

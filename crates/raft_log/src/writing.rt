@@ -1,0 +1,79 @@
+// Bodies and batches, written from rows of words that the caller lends.
+ghost use mathlib.Core.Path.{_≡_};
+ghost use mathlib.Core.Bool.{true, false};
+ghost use Rattle.raft_log.specs.Reply.{reply};
+ghost use Rattle.raft_log.specs.RowsWritten.{writtenReply, BodyReplied, BatchReplied};
+use list_writer::Encoded;
+
+// Writes a body.
+#[no_mangle]
+pub extern "C" fn raft_log_write_body(
+    items: &[u64],
+    entries: &[u64],
+    store: &[u8],
+    signature: u32,
+    out: &mut [u8],
+    answer: &mut [u64; 2],
+) -> u32
+    ensures { λ r. ⌜ BodyReplied true (now (items .entry)) (now (entries .entry)) (now (store .entry)) signature (now (out .entry)) (reply r (now (answer .exit))) (now (out .exit)) ⌝ }
+{
+    let r = list_writer::encode_rows(items, entries, store, signature, true, out, 0);
+    put_written(r, answer)
+}
+
+// The same with any key.
+#[no_mangle]
+pub extern "C" fn raft_log_write_body_unchecked(
+    items: &[u64],
+    entries: &[u64],
+    store: &[u8],
+    signature: u32,
+    out: &mut [u8],
+    answer: &mut [u64; 2],
+) -> u32
+    ensures { λ r. ⌜ BodyReplied false (now (items .entry)) (now (entries .entry)) (now (store .entry)) signature (now (out .entry)) (reply r (now (answer .exit))) (now (out .exit)) ⌝ }
+{
+    let r = list_writer::encode_rows(items, entries, store, signature, false, out, 0);
+    put_written(r, answer)
+}
+
+// Writes a whole batch.
+#[no_mangle]
+pub extern "C" fn raft_log_write_batch(
+    items: &[u64],
+    entries: &[u64],
+    store: &[u8],
+    content: &[u8],
+    signature: u32,
+    out: &mut [u8],
+    answer: &mut [u64; 2],
+) -> u32
+    ensures { λ r. ⌜ BatchReplied true (now (items .entry)) (now (entries .entry)) (now (store .entry)) (now (content .entry)) signature (now (out .entry)) (reply r (now (answer .exit))) (now (out .exit)) ⌝ }
+{
+    let r = log_batch::write_rows(items, entries, store, content, signature, true, out);
+    put_written(r, answer)
+}
+
+// The same with any key.
+#[no_mangle]
+pub extern "C" fn raft_log_write_batch_unchecked(
+    items: &[u64],
+    entries: &[u64],
+    store: &[u8],
+    content: &[u8],
+    signature: u32,
+    out: &mut [u8],
+    answer: &mut [u64; 2],
+) -> u32
+    ensures { λ r. ⌜ BatchReplied false (now (items .entry)) (now (entries .entry)) (now (store .entry)) (now (content .entry)) signature (now (out .entry)) (reply r (now (answer .exit))) (now (out .exit)) ⌝ }
+{
+    let r = log_batch::write_rows(items, entries, store, content, signature, false, out);
+    put_written(r, answer)
+}
+
+fn put_written(written: Encoded, answer: &mut [u64; 2]) -> u32
+    ensures { λ r. ⌜ reply r (now (answer .exit)) ≡ writtenReply written ⌝ }
+{
+    *answer = [written.item as u64, written.length as u64];
+    written.number
+}

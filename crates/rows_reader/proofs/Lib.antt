@@ -1,0 +1,4 @@
+pub mod Stores
+pub mod Storing
+pub mod Reading
+pub mod Determined

@@ -1,0 +1,135 @@
+-- What reading into lent rows comes to: a law for each way out of the code.
+-- Assumes nothing.
+use Prim.Native.Nat.{ℕ, _/_, _*_, _≤_, _<_}
+use mathlib.Core.Path.{_≡_, refl, ap, _∙_}
+use mathlib.Core.Bool.{Bool, true, false, _&&_}
+use mathlib.Core.List.{List}
+use native.Mathlib.Omega.{arith}
+use borrow.Author.Tests.{le-leb, lt-leb, eq-eqb, ne-eqb}
+use lib.ListN.{length}
+use Rattle.refusal.specs.declared.Refusal.{Refusal}
+use Rattle.log_item.specs.declared.Form.the-variants.{Any}
+use Rattle.log_item.specs.declared.LogItem.{LogItem}
+use Rattle.log_item.specs.declared.EntryIndex.{EntryIndex}
+use Rattle.item_batch.specs.declared.BodyCheck.{BodyCheck}
+use Rattle.item_batch.specs.declared.BodyCheck.the-variants.{Accepted, Refused}
+use Rattle.item_batch.specs.declared.Wanted.{Wanted}
+use Rattle.item_batch.specs.declared.Wanted.the-variants.{Free, Exactly}
+use Rattle.item_batch.specs.Reading.{Answer, accepted, rejected, readItems}
+use Rattle.item_batch.specs.Answers.{checkOf}
+use Rattle.item_batch.specs.Table.{agreeing}
+use Rattle.rows_reader.specs.Lent.{RowsRead}
+use Rattle.rows_reader.specs.Private.{Fits, Filled}
+
+-- ---- a refusal
+
+-- A refused reading leaves the rows as they were.
+pub left : {a : Answer} {r : BodyCheck} (items entries : List ℕ) {n i : ℕ} → a ≡ rejected n i → r ≡ Refused (record { number = n; item = i })
+    → RowsRead a items entries r items entries
+left items entries e f = record { answer = rw e f; item-rows = rw e; entry-rows = rw e }
+
+-- What comes to the same is read in the same way.
+pub same-answer : {a b : Answer} {items entries later more : List ℕ} {r : BodyCheck} → b ≡ a → RowsRead a items entries r later more
+    → RowsRead b items entries r later more
+same-answer e w = rw e w
+
+-- A refusal stays as it is, whatever is wanted.
+pub kept : (wanted : Wanted) (a : Answer) {x : Refusal} → Refused x ≡ checkOf a → agreeing wanted a ≡ rejected (x .number) (x .item)
+kept Free (rejected r i) {x} e = let f : _≡_ {A = Refusal} x (record { number = r; item = i }) = cc in rw f
+kept (Exactly n) (rejected r i) {x} e = let f : _≡_ {A = Refusal} x (record { number = r; item = i }) = cc in rw f
+kept wanted (accepted xs rows u q) e = let z : _≡_ {A = ℕ} 0 1 = cc in absurd (omega arith)
+
+-- ---- a body that is accepted
+
+-- The list that a is, and b too, with m items and n entries.
+pub record Agreed (a b : Answer) (m n u q : ℕ) : Type 0 where
+  pub xs : List LogItem
+  pub rows : List EntryIndex
+  pub reads : a ≡ accepted xs rows u q
+  pub agrees : b ≡ accepted xs rows u q
+  pub many : length xs ≡ m
+  pub used : length rows ≡ n
+
+module _ (wanted : Wanted) (a : Answer) {m n u q : ℕ} (e : Accepted m n u q ≡ checkOf a) where
+  pub agreed-free : wanted ≡ Free → Agreed a (agreeing wanted a) m n u q
+  agreed-free h = rw h (go a e)
+    where
+      go : (b : Answer) → Accepted m n u q ≡ checkOf b → Agreed b b m n u q
+      go (accepted xs rows v z) k =
+          let f : u ≡ v = cc in
+          let g : q ≡ z = cc in
+          record { xs = xs; rows = rows; reads = rw (f, g); agrees = rw (f, g); many = cc; used = cc }
+      go (rejected r i) k = let z : _≡_ {A = ℕ} 0 1 = cc in absurd (omega arith)
+
+  module _ {k : ℕ} (h : wanted ≡ Exactly k) where
+    pub agreed-same : u ≡ k → Agreed a (agreeing wanted a) m n u q
+    agreed-same same = rw h (go a e)
+      where
+        go : (b : Answer) → Accepted m n u q ≡ checkOf b → Agreed b (agreeing (Exactly k) b) m n u q
+        go (accepted xs rows v z) l =
+            let f : u ≡ v = cc in
+            let g : q ≡ z = cc in
+            let s : v ≡ k = omega arith in
+            record { xs = xs; rows = rows; reads = rw (f, g); agrees = rw (eq-eqb v k s, f, g); many = cc; used = cc }
+        go (rejected r i) l = let z : _≡_ {A = ℕ} 0 1 = cc in absurd (omega arith)
+
+    pub differs : (u ≡ k → ⊥) → agreeing wanted a ≡ rejected 20 0
+    differs other = rw h (go a e)
+      where
+        go : (b : Answer) → Accepted m n u q ≡ checkOf b → agreeing (Exactly k) b ≡ rejected 20 0
+        go (accepted xs rows v z) l =
+            let f : u ≡ v = cc in
+            let s : v ≡ k → ⊥ = λ g. other (f ∙ g) in
+            rw (ne-eqb v k s)
+        go (rejected r i) l = let z : _≡_ {A = ℕ} 0 1 = cc in absurd (omega arith)
+
+-- ---- the rows that are lent
+
+neither : (b : Bool) → (b && false) ≡ false
+neither true = refl
+neither false = refl
+
+module _ {a b : Answer} {m n u q : ℕ} (g : Agreed a b m n u q) (items entries : List ℕ) where
+  pub short-items : {r : BodyCheck} → length items / 7 < m → r ≡ Refused (record { number = 21; item = 0 }) → RowsRead b items entries r items entries
+  short-items h f =
+      let k : length items / 7 < length (g .xs) = omega (arith, g .many) in
+      let e = g .agrees in
+      record { answer = rw (e, lt-leb _ _ k) f; item-rows = rw (e, lt-leb _ _ k); entry-rows = rw (e, lt-leb _ _ k) }
+
+  pub short-entries : {r : BodyCheck} → length entries / 3 < n → r ≡ Refused (record { number = 21; item = 0 }) → RowsRead b items entries r items entries
+  short-entries h f =
+      let k : length entries / 3 < length (g .rows) = omega (arith, g .used) in
+      let e = g .agrees in
+      record {
+        answer = rw (e, lt-leb _ _ k, neither) f;
+        item-rows = rw (e, lt-leb _ _ k, neither);
+        entry-rows = rw (e, lt-leb _ _ k, neither);
+      }
+
+  module _ (room : m ≤ length items / 7) (more : n ≤ length entries / 3) where
+    pub fits : {s : List ℕ} → a ≡ readItems Any s → Fits s items entries
+    fits e =
+        record {
+          xs = g .xs;
+          rows = g .rows;
+          total = u;
+          next = q;
+          reads = rw e at (g .reads);
+          item-room = omega (arith, g .many);
+          entry-room = omega (arith, g .used);
+        }
+
+    pub read : {s later others : List ℕ} → a ≡ readItems Any s → Filled s items entries later others
+        → RowsRead b items entries (Accepted m n u q) later others
+    read {s} e f =
+        let k : length (g .xs) ≤ length items / 7 = omega (arith, g .many) in
+        let l : length (g .rows) ≤ length entries / 3 = omega (arith, g .used) in
+        let h = rw e at (g .reads) in
+        let x = g .agrees in
+        let i = f .item-rows in
+        let j = f .entry-rows in
+        record {
+          answer = rw (x, le-leb _ _ k, le-leb _ _ l, g .many, g .used);
+          item-rows = rw (x, le-leb _ _ k, le-leb _ _ l) (rw h at i);
+          entry-rows = rw (x, le-leb _ _ k, le-leb _ _ l) (rw h at j);
+        }

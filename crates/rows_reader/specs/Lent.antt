@@ -1,0 +1,33 @@
+-- What reading into lent rows answers, and what the rows hold afterwards.
+-- Assumes nothing.
+use Prim.Native.Nat.{ℕ, _/_}
+use mathlib.Core.Path.{_≡_}
+use mathlib.Core.Bool.{cond, _&&_}
+use mathlib.Core.List.{List, _++_}
+use lib.Dec.{leb}
+use lib.ListN.{length, drop}
+use Rattle.item_row.specs.Row.{itemsWords, entriesWords}
+use Rattle.item_batch.specs.declared.BodyCheck.{BodyCheck}
+use Rattle.item_batch.specs.Reading.{Answer, accepted, rejected}
+use Rattle.item_batch.specs.Answers.{checkOf}
+
+-- an answer that has more rows than are lent, seven words for an item and three for an entry, is a 21
+abbrev pub fitting : ℕ → ℕ → Answer → Answer
+fitting items entries (accepted xs rows u q) =
+    cond (leb (length xs) (items / 7) && leb (length rows) (entries / 3)) (accepted xs rows u q) (rejected 21 0)
+fitting items entries (rejected r i) = rejected r i
+
+-- the rows of the answer, then what stood there; a refused reading leaves all as it was
+abbrev pub itemsAfter : Answer → List ℕ → List ℕ
+itemsAfter (accepted xs rows u q) items = itemsWords xs ++ drop (length (itemsWords xs)) items
+itemsAfter (rejected r i) items = items
+
+abbrev pub entriesAfter : Answer → List ℕ → List ℕ
+entriesAfter (accepted xs rows u q) entries = entriesWords rows ++ drop (length (entriesWords rows)) entries
+entriesAfter (rejected r i) entries = entries
+
+-- the answer r to a reading that comes to a, and the later contents of the rows that are lent
+pub record RowsRead (a : Answer) (items entries : List ℕ) (r : BodyCheck) (later more : List ℕ) : Type 0 where
+  pub answer : r ≡ checkOf (fitting (length items) (length entries) a)
+  pub item-rows : later ≡ itemsAfter (fitting (length items) (length entries) a) items
+  pub entry-rows : more ≡ entriesAfter (fitting (length items) (length entries) a) entries
