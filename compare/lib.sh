@@ -37,6 +37,7 @@ find_library() {
     [ -f "$library" ] || fail "missing: $library"
     header=${RAFT_LOG_INCLUDE:-$root}/raft_log.h
     [ -f "$header" ] || fail "missing: $header"
+    mkdir -p "$root/target"
     nm "$library" 2>/dev/null | awk '$2 == "T" { print $3 }' | sort -u >"$root/target/have.txt"
     grep -o 'raft_log_[a-z0-9_]*(' "$header" | tr -d '(' | sort -u | comm -23 - "$root/target/have.txt" >"$root/target/lack.txt"
     if [ -s "$root/target/lack.txt" ]; then
