@@ -146,3 +146,8 @@ groups-fit (suc room) (last h) few tenth hb = omega (arith, digit′ room, pow-p
 groups-fit zero (more h g) few tenth hb = absurd (omega (arith, groups-pos g))
 groups-fit (suc room) (more h g) few tenth hb =
     omega (arith, digit′ room, hb 0, groups-fit room g (le-of-suc-le-suc few) tenth (λ i. hb (suc i)))
+
+-- a number of 64 bits has at most ten digits
+pub shortest-few : (n : ℕ) → n < 2 ^ 64 → length (shortest n) ≤ 10
+unfolding shortest
+shortest-few n h = spell-good 9 n h .few

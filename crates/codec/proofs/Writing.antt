@@ -2,7 +2,7 @@
 -- Assumes nothing.
 use Prim.Native.Nat.{ℕ, zero, suc, _+_, _*_, _/_, _%_, _^_, _≤_, _<_, zero-le}
 use mathlib.Core.Path.{_≡_, refl, sym, ap, _∙_}
-use mathlib.Core.List.{List}
+use mathlib.Core.List.{List, [], _∷_}
 use native.Mathlib.Omega.{arith}
 use native.Mathlib.Nat.{add-zero, add-suc}
 use native.Mathlib.Numerals.{add-one}
@@ -88,3 +88,13 @@ module _ {src out₀ : List ℕ} {at : ℕ} {out : List ℕ} {i : ℕ} where
 pub of-bytes : (out : List ℕ) (at : ℕ) {src bs : List ℕ} (r : Wrote) (later : List ℕ) → src ≡ bs
     → (r ≡ wroteAt out at src) × (later ≡ placed out at src) → (r ≡ wroteAt out at bs) × (later ≡ placed out at bs)
 of-bytes out at r later e h = rw e at h
+
+-- a number of one byte, or no room for it
+pub one-short : (n : ℕ) (out : List ℕ) (at : ℕ) → n < 128 → length out ≤ at → (NoRoom ≡ wroteAt out at (shortest n)) × (out ≡ placed out at (shortest n))
+unfolding shortest
+one-short n out at t h = rw (spell-one 9 n t) (no-room out at (n ∷ []) (omega arith))
+
+pub one-byte : (n : ℕ) (out : List ℕ) (at : ℕ) → n < 128 → at < length out
+    → (Next (at + 1) ≡ wroteAt out at (shortest n)) × (set out at n ≡ placed out at (shortest n))
+unfolding shortest
+one-byte n out at t h = rw (spell-one 9 n t) (room-for out at (n ∷ []) (set out at n) (at + 1) (omega arith) (refl, refl))

@@ -4,7 +4,7 @@
 // Every public function takes any arguments. A place may lie anywhere, past the end too, and what does not fit is not written.
 ghost use mathlib.Core.Path.{_≡_};
 ghost use mathlib.Core.List.{[], _∷_};
-ghost use Prim.Native.Nat.{_<_, _≤_, min};
+ghost use Prim.Native.Nat.{_-_, _<_, _≤_, min};
 ghost use lib.ListN.{length, getD};
 ghost use Rattle.codec.specs.Number.{readNumber};
 ghost use Rattle.codec.specs.Shortest.{shortest};
@@ -40,12 +40,28 @@ pub enum U32Read {
 pub fn encode_var_u64(n: u64, out: &mut [u8], at: usize) -> Wrote
     ensures { λ r. ⌜ (r ≡ wroteAt (now (out .entry)) at (shortest n)) × (now (out .exit) ≡ placed (now (out .entry)) at (shortest n)) ⌝ }
 {
-    let len = var_u64_len(n);
+    if n < 128 {
+        if out.len() <= at {
+            return Wrote::NoRoom;
+        }
+        out[at] = n as u8;
+        return Wrote::Next(at + 1);
+    }
+    encode_long(n, out, at)
+}
+
+// The same for any length: a function of its own, so that one byte stays in line.
+fn encode_long(n: u64, out: &mut [u8], at: usize) -> Wrote
+    ensures { λ r. ⌜ (r ≡ wroteAt (now (out .entry)) at (shortest n)) × (now (out .exit) ≡ placed (now (out .entry)) at (shortest n)) ⌝ }
+{
     if out.len() < at {
         return Wrote::NoRoom;
     }
-    if out.len() - at < len {
-        return Wrote::NoRoom;
+    let room = out.len() - at;
+    if room < 10 {
+        if room < var_u64_len(n) {
+            return Wrote::NoRoom;
+        }
     }
     let mut left = n;
     let mut i = at;
@@ -174,7 +190,18 @@ fn decode_long(buf: &[u8], at: usize, first: u64) -> NumberRead
     requires { ⌜ (at < length (now buf)) × (first ≡ getD (now buf) at 0) × (128 ≤ first) × (first < 256) ⌝ }
     ensures { λ r. ⌜ r ≡ readNumber (now (buf .entry)) at ⌝ }
 {
-    let end = least(buf.len() - at, 9);
+    let left = buf.len() - at;
+    if left < 9 {
+        return decode_up_to(buf, at, first, left);
+    }
+    decode_up_to(buf, at, first, 9)
+}
+
+// The same where the first nine bytes, or all where there are fewer, are known to be `end`: a literal 9 lets the compiler unroll the loop.
+fn decode_up_to(buf: &[u8], at: usize, first: u64, end: usize) -> NumberRead
+    requires { ⌜ (at < length (now buf)) × (first ≡ getD (now buf) at 0) × (128 ≤ first) × (first < 256) × (end ≡ min (length (now buf) - at) 9) ⌝ }
+    ensures { λ r. ⌜ r ≡ readNumber (now (buf .entry)) at ⌝ }
+{
     let mut value = first - 128;
     let mut j: usize = 1;
     while j < end {
@@ -239,10 +266,4 @@ fn wide(b: u8) -> u64
     ensures { λ r. ⌜ r ≡ b ⌝ }
 {
     b as u64
-}
-
-fn least(a: usize, b: usize) -> usize
-    ensures { λ r. ⌜ r ≡ min a b ⌝ }
-{
-    if a < b { a } else { b }
 }

@@ -1,100 +1,48 @@
--- `codec::encode_var_u64` meets its contract. The loop's invariant, `Writes`: what is left of the number still has to be stored.
+-- `codec::encode_var_u64` meets its contract: one byte by itself, the rest by `encode_long`.
 -- Assumes nothing.
 use denote.Ref.{now}
-use Rattle.codec.specs.Shortest.{shortest}
-use native.Mathlib.Omega.{arith}
 use borrow.Author.Needs.{needs}
-use Rattle.codec.proofs.Writing.{Writes, writes-start, writes-room, writes-more, writes-last, no-room, room-for}
-use Rattle.codec.proofs.Shortest.{shortest-pos}
+use Rattle.codec.proofs.Writing.{one-short, one-byte}
 use Rattle.codec.proofs.encode_var_u64.Statement.{statement}
 use Rattle.codec.proofs.encode_var_u64.Tie as tie
 
-abbrev Inv-loop : tie.InvT-loop
-Inv-loop n out₀ at len left₀ i₀ out left i = Writes n out₀ at out left i
+returns : tie.Need-returns
+returns c = one-short _ _ _ (c .before .if1 .taken) (c .if2 .taken)
 
-abbrev μ-loop : tie.MeasureT-loop
-μ-loop n out₀ at len left₀ i₀ out left i = left
-
-var-u64-len-requires : tie.Need-var-u64-len-requires Inv-loop μ-loop
-var-u64-len-requires c κs = search needs
-
-returns : tie.Need-returns Inv-loop μ-loop
-returns c =
-    let len = c .before .var-u64-len .ensures in
-    let a = c .before .before .before .args in
-    no-room (now (a .out)) (a .at) (shortest (a .n)) (omega (arith, shortest-pos (a .n)))
-
-sub-if2 : tie.Need-sub-if2 Inv-loop μ-loop
-sub-if2 c = search needs
-
-returns-2 : tie.Need-returns-2 Inv-loop μ-loop
-returns-2 c =
-    let len = c .before .before .var-u64-len .ensures in
-    let a = c .before .before .before .before .args in
-    no-room (now (a .out)) (a .at) (shortest (a .n)) (omega arith)
-
-loop-holds : tie.Need-loop-holds Inv-loop μ-loop
-loop-holds c = writes-start _ _ _ (c .before .before .before .before .fits .n .fits)
-
-add-out : tie.Need-add-out Inv-loop μ-loop
-add-out c = search needs
-
-cast-out : tie.Need-cast-out Inv-loop μ-loop
+cast-out : tie.Need-cast-out
 cast-out c = search needs
 
-slice-write-out : tie.Need-slice-write-out Inv-loop μ-loop
-slice-write-out c =
-    let w = c .before .loop .inv in
-    omega (arith, writes-room w, w .same)
+slice-write-out : tie.Need-slice-write-out
+slice-write-out c = search needs
 
-add-i : tie.Need-add-i Inv-loop μ-loop
-add-i c = search needs
+add-t5 : tie.Need-add-t5
+add-t5 c = search needs
 
-loop-less : tie.Need-loop-less Inv-loop μ-loop
-loop-less c = search needs
-
-loop-again : tie.Need-loop-again Inv-loop μ-loop
-loop-again c = writes-more (c .before .loop .inv) (c .loop-test .taken)
-
-cast-out-2 : tie.Need-cast-out-2 Inv-loop μ-loop
-cast-out-2 c = search needs
-
-slice-write-out-2 : tie.Need-slice-write-out-2 Inv-loop μ-loop
-slice-write-out-2 c =
-    let w = c .before .loop .inv in
-    omega (arith, writes-room w, w .same)
-
-add-t7 : tie.Need-add-t7 Inv-loop μ-loop
-add-t7 c = search needs
-
-same-length : tie.Need-same-length Inv-loop μ-loop
+same-length : tie.Need-same-length
 same-length c = search needs
 
-returns-3 : tie.Need-returns-3 Inv-loop μ-loop
-returns-3 c =
-    let len = c .before .before .before .before .var-u64-len .ensures in
-    let a = c .before .before .before .before .before .before .args in
-    room-for (now (a .out)) (a .at) (shortest (a .n)) _ _ (omega arith) (writes-last (c .before .loop .inv) (c .loop-test .left))
+returns-2 : tie.Need-returns-2
+returns-2 c = one-byte _ (now (c .before .before .before .args .out)) _ (c .before .if1 .taken) (c .if2 .left)
+
+encode-long-requires : tie.Need-encode-long-requires
+encode-long-requires c κs = search needs
+
+same-length-2 : tie.Need-same-length-2
+same-length-2 c = search needs
+
+returns-3 : tie.Need-returns-3
+returns-3 c = search needs
 
 pub encode-var-u64-spec : {M : Type 1} → statement M
 encode-var-u64-spec =
     tie.close
     (tie.spec
-    Inv-loop
-    μ-loop
-    var-u64-len-requires
     returns
-    sub-if2
-    returns-2
-    loop-holds
-    add-out
     cast-out
     slice-write-out
-    add-i
-    loop-less
-    loop-again
-    cast-out-2
-    slice-write-out-2
-    add-t7
+    add-t5
     same-length
+    returns-2
+    encode-long-requires
+    same-length-2
     returns-3)
