@@ -197,7 +197,7 @@ fn decode_long(buf: &[u8], at: usize, first: u64) -> NumberRead
     decode_up_to(buf, at, first, 9)
 }
 
-// The same where the first nine bytes, or all where there are fewer, are known to be `end`: a literal 9 lets the compiler unroll the loop.
+// The same by a loop over `end` bytes: nine, or all where fewer are left. With a literal 9 the compiler unrolls it.
 fn decode_up_to(buf: &[u8], at: usize, first: u64, end: usize) -> NumberRead
     requires { ⌜ (at < length (now buf)) × (first ≡ getD (now buf) at 0) × (128 ≤ first) × (first < 256) × (end ≡ min (length (now buf) - at) 9) ⌝ }
     ensures { λ r. ⌜ r ≡ readNumber (now (buf .entry)) at ⌝ }
