@@ -5,17 +5,20 @@
  *
  * Common to all
  *   - A function that can refuse returns 0, or the number of the first check that failed: see below.
- *   - `answer` is set at each call, all its words; after a refusal they are 0 but for the item number, where there is one.
+ *   - `answer` is set at each call, all its words; after a refusal they are 0, but for the item and, in a rewrite, the old count. The item
+ *     is the refused one's number, 0 where nothing is refused or it is outside items.
  *   - Bytes are lent as a pointer and a length in bytes. Rows are lent as a pointer to 64-bit words and a length in WORDS; what does not
  *     make up a whole row at the end is not looked at and not written.
  *   - After a refusal all lent rows and bytes are as they were. Rows and bytes past the result are never touched.
  *   - No pointer is null, also where the length is 0, and words are aligned. What a function writes overlaps nothing else it is lent.
- *   - A place is counted from 0, in the bytes that are named. Items are counted from 0.
+ *   - A place is counted from 0, in the bytes that are named. Items are counted from 0. size_t has 64 bits.
  *
  * Rows
- *   item row, 7 words: group, type, and five words by type and kind; those not named are 0 when read and not looked at when written.
+ *   item row, 7 words: group, type, and five words by type and kind; those not named are 0 when read and not looked at when written
+ *   or asked for a status.
  *                             word 2     word 3        word 4        word 5          word 6
- *     type 1, entries         -          count         first index   -               -           (first index 0 where count is 0)
+ *     type 1, entries         -          count         first index   -               -           (count 0: first index 0 when
+ *                                                                                                 read, not looked at when written)
  *     type 2, command         1 clean    -             -             -               -
  *                             2 compact  index         -             -               -
  *     type 3, key             1 put      key place     key length    content place   content length
@@ -43,7 +46,15 @@
  *      entry rows
  *   14 more than 1,024 entries
  *   15 a tail below the total before it
- * Orders are those of document 01. A row that is no item is a 10, 11 or 12 at its turn.
+ *
+ * Which comes first
+ *   header          1, 2, 3, 4
+ *   batch, read     header, 18, 19, block (5, 6 unless it is empty), body, 20, 21
+ *   body, read      5, 6, item count (7, 9), items in order, 21
+ *   item, read      group and type (7, 10); command (7, 11); op (7, 12) and spans (7, 13); entries: count (7, 14), first index (7, 17), each
+ *                   tail (7, 16, 15)
+ *   body, written   9; rows in order (10, 11, 12; entries 14, 13, 17, 16; spans 13, then 23); 22; 21
+ *   batch, written  the same, with 20 between 22 and 21
  */
 #ifndef RAFT_LOG_H
 #define RAFT_LOG_H
@@ -94,14 +105,16 @@ uint32_t raft_log_read_items(const uint8_t *body, size_t body_len, uint64_t *ite
 uint32_t raft_log_read_batch(const uint8_t *data, size_t data_len, uint32_t signature, uint64_t *items, size_t items_words,
                              uint64_t *entries, size_t entries_words, uint64_t answer[9]);
 
-/* Writes all item rows as a body, from the start of out on. answer: item (of a refusal), length. The unchecked form gives no 23. */
+/* Writes all item rows as a body, from the start of out on. answer: item (of a refusal), length. The unchecked form gives no 23. No item
+ * rows: count 0 and the footer. */
 uint32_t raft_log_write_body(const uint64_t *items, size_t items_words, const uint64_t *entries, size_t entries_words, const uint8_t *store,
                              size_t store_len, uint32_t signature, uint8_t *out, size_t out_len, uint64_t answer[2]);
 uint32_t raft_log_write_body_unchecked(const uint64_t *items, size_t items_words, const uint64_t *entries, size_t entries_words,
                                        const uint8_t *store, size_t store_len, uint32_t signature, uint8_t *out, size_t out_len,
                                        uint64_t answer[2]);
 
-/* Writes a whole batch, with `content` in its block. No items and no content: nothing is written, length 0. */
+/* Writes a whole batch, with `content` in its block. answer: item (of a refusal), length. The unchecked form gives no 23. No item rows and
+ * no content: nothing is written, length 0. */
 uint32_t raft_log_write_batch(const uint64_t *items, size_t items_words, const uint64_t *entries, size_t entries_words,
                               const uint8_t *store, size_t store_len, const uint8_t *content, size_t content_len, uint32_t signature,
                               uint8_t *out, size_t out_len, uint64_t answer[2]);
@@ -109,7 +122,8 @@ uint32_t raft_log_write_batch_unchecked(const uint64_t *items, size_t items_word
                                         const uint8_t *store, size_t store_len, const uint8_t *content, size_t content_len,
                                         uint32_t signature, uint8_t *out, size_t out_len, uint64_t answer[2]);
 
-/* Where the bytes of an entry stand in the block that its row's queue names. answer: place, length. 26 (queue above 1), 20, 5, 6, 13. */
+/* Where the bytes of an entry stand in the block that its row's queue names. answer: place, length. File number
+ * and block place are not looked at. 26 (queue above 1), 20, 5 and 6 unless the block is empty, 13. */
 uint32_t raft_log_entry_view(const uint64_t row[6], const uint8_t *append, size_t append_len, const uint8_t *rewrite, size_t rewrite_len,
                              uint64_t answer[2]);
 
@@ -118,12 +132,13 @@ uint32_t raft_log_entry_view(const uint64_t row[6], const uint8_t *append, size_
 uint32_t raft_log_status(const uint64_t row[7], const uint8_t *store, size_t store_len, uint64_t answer[2]);
 
 /* Replaces rows of a location table by incoming ones. answer: rows replaced, rewritten count (after a refusal 0 and the old count).
- * `gate` counts where with_gate. 26, 27, 24, 25, 21 (more than 64 rows in the table or incoming). A row whose queue is above 1, or whose entry
- * offset or length is above 4,294,967,295, is a 26 in the table and a 27 among the incoming ones. */
+ * `gate` counts where with_gate. 26, 27, 24, 25, 21 (more than 64 rows in the table or incoming). A row whose queue is above 1 is a 26 in the
+ * table and a 27 among the incoming ones. */
 uint32_t raft_log_rewrite(uint64_t *table, size_t table_words, uint64_t first_index, uint64_t rewritten, const uint64_t *incoming,
                           size_t incoming_words, uint64_t incoming_first, bool with_gate, uint64_t gate, uint64_t answer[2]);
 
-/* The longest run of rows from the rewritten count on whose file number is at most the gate. answer: place, length. 26, 21. */
+/* The longest run of rows from the rewritten count on whose file number is at most the gate. answer: place, length. An empty
+ * run has the rewritten count as its place. 26, 21. */
 uint32_t raft_log_fetch(const uint64_t *table, size_t table_words, uint64_t first_index, uint64_t rewritten, uint64_t gate,
                         uint64_t answer[2]);
 
