@@ -29,8 +29,6 @@ use Rattle.log_batch.proofs.view.check_entry.Kinds as check-entry-kinds
 use Rattle.log_batch.proofs.view.check_entry.Reads as check-entry-reads
 use Rattle.log_batch.proofs.view.entry_view.Kinds as entry-view-kinds
 use Rattle.log_batch.proofs.view.entry_view.Reads as entry-view-reads
-use Rattle.log_batch.proofs.AtomicGroupStatus.parse.Kinds as parse-kinds
-use Rattle.log_batch.proofs.AtomicGroupStatus.parse.Reads as parse-reads
 
 -- An answer says in the words of the definitions all that it says.
 header-same : (a b : HeaderRead) → headerGot a ≡ headerGot b → a ≡ b
@@ -85,6 +83,3 @@ check-entry κs a x y s t p q = p ∙ sym q
 
 pub entry-view : OneAnswer 2 entry-view-kinds.ps entry-view-kinds.r entry-view-reads.Post (λ κs x y s t. (now x ≡ now y) × (now (s .1 .1 .1 .0) ≡ now (t .1 .1 .1 .0)))
 entry-view κs a x y s t p q = (p .1 ∙ sym (q .1), p .0 ∙ sym (q .0))
-
-pub parse : OneAnswer 1 parse-kinds.ps parse-kinds.r parse-reads.Post (λ κs x y s t. x ≡ y)
-parse κs a x y s t p q = p ∙ sym q

@@ -4,7 +4,6 @@ pub mod Planning
 pub mod Framing
 pub mod RowsWritten
 pub mod Views
-pub mod Marks
 pub mod Determined
 pub mod Again
 pub mod Theorems

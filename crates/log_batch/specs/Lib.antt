@@ -2,6 +2,5 @@ pub mod Header
 pub mod Batch
 pub mod Written
 pub mod View
-pub mod Status
 pub mod Examples
 pub mod Rows

@@ -1,7 +1,5 @@
-// Whole batches, read and written: header, block and body; the bytes of an entry; and the status of an atomic group. From log_batch.rs,
-// LogBatch and AtomicGroupStatus.
+// Whole batches, read and written: header, block and body; and the bytes of an entry. From log_batch.rs, LogBatch.
 mod rows;
-mod status;
 mod view;
 
 pub use rows::read_rows;
@@ -19,18 +17,13 @@ ghost use Rattle.item_batch.specs.Seal.{sealCheck};
 ghost use Rattle.item_batch.specs.Writing.{listed, rowLengths};
 ghost use Rattle.item_writer.specs.Private.{Room, Stored};
 ghost use Rattle.refusal.specs.First.{firstOf};
-ghost use Rattle.log_batch.specs.Status.{statusOf};
 use codec::U64Read;
 use item_batch::BodyCheck;
 use item_batch::LogItemBatch;
 use item_batch::Wanted;
 use list_writer::Encoded;
 use list_writer::Measured;
-use log_item::LogItem;
-use log_item::LogItemContent;
-use log_item::Op;
 use log_item::Span;
-use refusal::Refusal;
 
 // The frame of a batch, as its header states it.
 pub struct LogBatch {
@@ -319,42 +312,4 @@ fn content_len(len: usize) -> usize
         return 0;
     }
     len - LogBatch::CHECKSUM_LEN
-}
-
-// What a mark says of its group of batches.
-pub enum AtomicGroupStatus {
-    Begin,
-    Middle,
-    End,
-}
-
-// The status that an item marks and the group's number; or that it is no mark; or why it is refused.
-pub enum StatusRead {
-    Mark { id: u64, status: AtomicGroupStatus },
-    NoMark,
-    Refused(Refusal),
-}
-
-impl AtomicGroupStatus {
-    // What an item marks. `store` has the bytes that the item's spans lie in.
-    pub fn parse(item: LogItem, store: &[u8]) -> StatusRead
-        ensures { λ r. ⌜ r ≡ statusOf item (item .content) (now (store .entry)) ⌝ }
-    {
-        let content = item.content;
-        match content {
-            LogItemContent::EntryIndexes(_) => StatusRead::NoMark,
-            LogItemContent::Command(_) => StatusRead::NoMark,
-            LogItemContent::Kv(kv) => {
-                let key = kv.key;
-                let op = kv.op;
-                if !log_item::lies_in(store, key) {
-                    return status::outside();
-                }
-                match op {
-                    Op::Del => StatusRead::NoMark,
-                    Op::Put { value } => status::put_status(item.raft_group_id, key, value, store),
-                }
-            }
-        }
-    }
 }

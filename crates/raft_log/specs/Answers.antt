@@ -17,11 +17,11 @@ use Rattle.item_batch.specs.declared.BodyCheck.the-variants as check
 use Rattle.item_batch.specs.declared.PlainForm.{PlainForm}
 use Rattle.item_batch.specs.declared.PlainForm.the-variants as plain
 use Rattle.log_batch.specs.declared.LogBatch.{LogBatch}
-use Rattle.log_batch.specs.declared.AtomicGroupStatus.{AtomicGroupStatus}
-use Rattle.log_batch.specs.declared.AtomicGroupStatus.the-variants.{Begin, Middle, End}
-use Rattle.log_batch.specs.declared.StatusRead.{StatusRead}
-use Rattle.log_batch.specs.declared.StatusRead.the-variants as status
-use Rattle.log_batch.specs.Status.{statusOf}
+use Rattle.atomic_status.specs.declared.AtomicGroupStatus.{AtomicGroupStatus}
+use Rattle.atomic_status.specs.declared.AtomicGroupStatus.the-variants.{Begin, Middle, End}
+use Rattle.atomic_status.specs.declared.StatusRead.{StatusRead}
+use Rattle.atomic_status.specs.declared.StatusRead.the-variants as status
+use Rattle.atomic_status.specs.Status.{statusOf}
 use Rattle.log_batch.specs.View.{entryCheck}
 use Rattle.raft_log.specs.Reply.{Reply, reply}
 

@@ -27,15 +27,15 @@ ghost use Rattle.item_batch.specs.Answers.{checkOf, plainBody};
 ghost use Rattle.log_batch.specs.Header.{header};
 ghost use Rattle.raft_log.specs.Reply.{reply};
 ghost use Rattle.raft_log.specs.Answers.{numberReply, wroteReply, headerReply, checkReply, plainReply, queueCheck, viewOf, markOf, statusReply, rowStatus};
+use atomic_status::AtomicGroupStatus;
+use atomic_status::StatusRead;
 use codec::NumberRead;
 use codec::Wrote;
 use item_batch::BodyCheck;
 use item_batch::PlainForm;
 use item_row::RowRead;
-use log_batch::AtomicGroupStatus;
 use log_batch::HeaderRead;
 use log_batch::LogBatch;
-use log_batch::StatusRead;
 
 // The checksum.
 #[no_mangle]

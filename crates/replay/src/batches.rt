@@ -1,10 +1,10 @@
 // Headers, whole batches written, blocks, and status marks.
 use crate::input;
+use atomic_status::AtomicGroupStatus;
+use atomic_status::StatusRead;
 use item_batch::LogItemBatch;
-use log_batch::AtomicGroupStatus;
 use log_batch::HeaderRead;
 use log_batch::LogBatch;
-use log_batch::StatusRead;
 use log_item::ItemRead;
 use log_item::LogItem;
 use pipe_log::Location;

@@ -12,9 +12,9 @@ use Rattle.log_item.specs.declared.Op.the-variants.{Put, Del}
 use Rattle.log_item.specs.declared.LogItemContent.{LogItemContent}
 use Rattle.log_item.specs.declared.LogItemContent.the-variants as contents
 use Rattle.log_item.specs.declared.LogItem.{LogItem}
-use Rattle.log_batch.specs.declared.AtomicGroupStatus.the-variants.{Begin, Middle, End}
-use Rattle.log_batch.specs.declared.StatusRead.{StatusRead}
-use Rattle.log_batch.specs.declared.StatusRead.the-variants.{Mark, NoMark, Refused}
+use Rattle.atomic_status.specs.declared.AtomicGroupStatus.the-variants.{Begin, Middle, End}
+use Rattle.atomic_status.specs.declared.StatusRead.{StatusRead}
+use Rattle.atomic_status.specs.declared.StatusRead.the-variants.{Mark, NoMark, Refused}
 
 -- the key is the prefix and the byte 01
 abbrev pub isMark : List ℕ → Span → Bool

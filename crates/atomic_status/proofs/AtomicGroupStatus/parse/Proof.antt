@@ -1,11 +1,11 @@
--- `log_batch::AtomicGroupStatus::parse` meets its contract.
+-- `atomic_status::AtomicGroupStatus::parse` meets its contract.
 -- Assumes nothing.
 use borrow.Author.Tests.{not-true, not-false}
 use denote.Ref.{now}
-use Rattle.log_batch.proofs.Marks.{status-entries, status-command, status-outside, status-delete, status-put}
+use Rattle.atomic_status.proofs.Marks.{status-entries, status-command, status-outside, status-delete, status-put}
 use borrow.Author.Needs.{needs}
-use Rattle.log_batch.proofs.AtomicGroupStatus.parse.Statement.{statement}
-use Rattle.log_batch.proofs.AtomicGroupStatus.parse.Tie as tie
+use Rattle.atomic_status.proofs.AtomicGroupStatus.parse.Statement.{statement}
+use Rattle.atomic_status.proofs.AtomicGroupStatus.parse.Tie as tie
 
 enum-told : tie.Need-enum-told
 enum-told c = search needs

@@ -14,11 +14,11 @@ use Rattle.log_item.specs.declared.EntryIndexes.{EntryIndexes}
 use Rattle.log_item.specs.declared.KeyValue.{KeyValue}
 use Rattle.log_item.specs.declared.LogItemContent.the-variants as contents
 use Rattle.log_item.specs.declared.LogItem.{LogItem}
-use Rattle.log_batch.specs.declared.AtomicGroupStatus.the-variants.{Begin, Middle, End}
-use Rattle.log_batch.specs.declared.StatusRead.{StatusRead}
-use Rattle.log_batch.specs.declared.StatusRead.the-variants.{Mark, NoMark, Refused}
+use Rattle.atomic_status.specs.declared.AtomicGroupStatus.the-variants.{Begin, Middle, End}
+use Rattle.atomic_status.specs.declared.StatusRead.{StatusRead}
+use Rattle.atomic_status.specs.declared.StatusRead.the-variants.{Mark, NoMark, Refused}
 use Rattle.log_item.specs.Prefix.{inside}
-use Rattle.log_batch.specs.Status.{isMark, statusByte, markOf, statusOf}
+use Rattle.atomic_status.specs.Status.{isMark, statusByte, markOf, statusOf}
 
 -- ---- the key of a mark
 

@@ -1,8 +1,8 @@
--- `log_batch::status::status_byte` meets its contract.
+-- `atomic_status::status_byte` meets its contract.
 -- Assumes nothing.
-use Rattle.log_batch.proofs.Marks.{byte-begin, byte-middle, byte-end, byte-unknown}
-use Rattle.log_batch.proofs.status.status_byte.Statement.{statement}
-use Rattle.log_batch.proofs.status.status_byte.Tie as tie
+use Rattle.atomic_status.proofs.Marks.{byte-begin, byte-middle, byte-end, byte-unknown}
+use Rattle.atomic_status.proofs.status_byte.Statement.{statement}
+use Rattle.atomic_status.proofs.status_byte.Tie as tie
 
 returns : tie.Need-returns
 returns c = byte-begin _ (c .if1 .taken)

@@ -1,13 +1,13 @@
--- `log_batch::status::put_status` meets its contract.
+-- `atomic_status::put_status` meets its contract.
 -- Assumes nothing.
 use borrow.Author.Tests.{not-true, not-false}
 use denote.Ref.{now}
 use Rattle.log_item.proofs.Inside.{lies-in}
-use Rattle.log_batch.proofs.Marks.{put-outside, put-other, put-long, put-mark}
+use Rattle.atomic_status.proofs.Marks.{put-outside, put-other, put-long, put-mark}
 use native.Mathlib.Omega.{arith}
 use borrow.Author.Needs.{needs}
-use Rattle.log_batch.proofs.status.put_status.Statement.{statement}
-use Rattle.log_batch.proofs.status.put_status.Tie as tie
+use Rattle.atomic_status.proofs.put_status.Statement.{statement}
+use Rattle.atomic_status.proofs.put_status.Tie as tie
 
 lies-in-requires : tie.Need-lies-in-requires
 lies-in-requires c κs = search needs

@@ -1,14 +1,52 @@
-// What a put marks: the status of an atomic group.
+// The status of an atomic group, which an item may mark. From log_batch.rs, AtomicGroupStatus.
 ghost use mathlib.Core.Path.{_≡_};
-ghost use Rattle.log_batch.specs.Status.{isMark, statusByte, markOf};
-use crate::AtomicGroupStatus;
-use crate::StatusRead;
+ghost use Rattle.atomic_status.specs.Status.{isMark, statusByte, markOf, statusOf};
+use log_item::LogItem;
+use log_item::LogItemContent;
 use log_item::Op;
 use log_item::Span;
 use refusal::Refusal;
 
+// What a mark says of its group of batches.
+pub enum AtomicGroupStatus {
+    Begin,
+    Middle,
+    End,
+}
+
+// The status that an item marks and the group's number; or that it is no mark; or why it is refused.
+pub enum StatusRead {
+    Mark { id: u64, status: AtomicGroupStatus },
+    NoMark,
+    Refused(Refusal),
+}
+
+impl AtomicGroupStatus {
+    // What an item marks. `store` has the bytes that the item's spans lie in.
+    pub fn parse(item: LogItem, store: &[u8]) -> StatusRead
+        ensures { λ r. ⌜ r ≡ statusOf item (item .content) (now (store .entry)) ⌝ }
+    {
+        let content = item.content;
+        match content {
+            LogItemContent::EntryIndexes(_) => StatusRead::NoMark,
+            LogItemContent::Command(_) => StatusRead::NoMark,
+            LogItemContent::Kv(kv) => {
+                let key = kv.key;
+                let op = kv.op;
+                if !log_item::lies_in(store, key) {
+                    return outside();
+                }
+                match op {
+                    Op::Del => StatusRead::NoMark,
+                    Op::Put { value } => put_status(item.raft_group_id, key, value, store),
+                }
+            }
+        }
+    }
+}
+
 // What a put marks, its key lying in the store.
-pub(crate) fn put_status(group: u64, key: Span, value: Span, store: &[u8]) -> StatusRead
+fn put_status(group: u64, key: Span, value: Span, store: &[u8]) -> StatusRead
     ensures { λ r. ⌜ r ≡ markOf group key (Op.Put value) (now (store .entry)) ⌝ }
 {
     if !log_item::lies_in(store, value) {
@@ -52,7 +90,7 @@ fn status_byte(group: u64, b: u8) -> StatusRead
     })
 }
 
-pub(crate) fn outside() -> StatusRead
+fn outside() -> StatusRead
     ensures { λ r. ⌜ r ≡ StatusRead.Refused (record { number = 13; item = 0 }) ⌝ }
 {
     StatusRead::Refused(Refusal {

@@ -1,10 +1,10 @@
--- `log_batch::status::is_mark` meets its contract.
+-- `atomic_status::is_mark` meets its contract.
 -- Assumes nothing.
 use denote.Ref.{now}
-use Rattle.log_batch.proofs.Marks.{mark-length, mark-bytes}
+use Rattle.atomic_status.proofs.Marks.{mark-length, mark-bytes}
 use borrow.Author.Needs.{needs}
-use Rattle.log_batch.proofs.status.is_mark.Statement.{statement}
-use Rattle.log_batch.proofs.status.is_mark.Tie as tie
+use Rattle.atomic_status.proofs.is_mark.Statement.{statement}
+use Rattle.atomic_status.proofs.is_mark.Tie as tie
 
 returns : tie.Need-returns
 returns c = mark-length (now (c .before .before .before .args .store)) (c .before .before .before .args .key) (c .if1 .taken)
