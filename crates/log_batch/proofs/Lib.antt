@@ -1,8 +1,6 @@
 pub mod Frames
-pub mod RowsRead
 pub mod Planning
 pub mod Framing
-pub mod RowsWritten
 pub mod Views
 pub mod Determined
 pub mod Again

@@ -3,4 +3,3 @@ pub mod Batch
 pub mod Written
 pub mod View
 pub mod Examples
-pub mod Rows

@@ -1,9 +1,6 @@
 // Whole batches, read and written: header, block and body; and the bytes of an entry. From log_batch.rs, LogBatch.
-mod rows;
 mod view;
 
-pub use rows::read_rows;
-pub use rows::write_rows;
 pub use view::check_entry;
 pub use view::entry_view;
 ghost use mathlib.Core.Path.{_≡_};
@@ -12,13 +9,13 @@ ghost use Prim.Native.Nat.{_+_, _≤_, _<_, _-_};
 ghost use lib.ListN.{length, take, drop};
 ghost use Rattle.log_batch.specs.Header.{frame, header, headerGot};
 ghost use Rattle.log_batch.specs.Batch.{blockCheck, sealedBatch, readBatch};
-ghost use Rattle.log_batch.specs.Written.{blockBytes, frontBytes, batchEncoded, BatchWritten};
+ghost use Rattle.log_batch.specs.Written.{blockBytes, frontBytes, batchEncoded, FrontWritten, BatchWritten};
 ghost use Rattle.item_batch.specs.Seal.{sealCheck};
 ghost use Rattle.item_batch.specs.Writing.{listed, rowLengths};
-ghost use Rattle.item_writer.specs.Private.{Room, Stored};
+ghost use Rattle.codec.specs.Write.{placed};
+ghost use Rattle.item_writer.specs.Private.{Room};
 ghost use Rattle.refusal.specs.First.{firstOf};
 use codec::U64Read;
-use item_batch::BodyCheck;
 use item_batch::LogItemBatch;
 use item_batch::Wanted;
 use list_writer::Encoded;
@@ -38,13 +35,6 @@ pub struct LogBatch {
 pub enum HeaderRead {
     Done { batch: LogBatch },
     Refused(u32),
-}
-
-// How much a batch holds, and where its body and its block stand; 0 0 where it is refused.
-pub struct BatchCheck {
-    pub check: BodyCheck,
-    pub body: Span,
-    pub block: Span,
 }
 
 impl LogBatch {
@@ -79,11 +69,35 @@ impl LogBatch {
         }
     }
 
+    // The frame of a batch whose header, length, compression type, block and checksum of the body are right.
+    pub fn check_frame(buf: &[u8], signature: u32) -> HeaderRead
+        ensures { λ r. ⌜ headerGot r ≡ sealedBatch (now (buf .entry)) signature 0 ⌝ }
+    {
+        match LogBatch::decode_header(buf) {
+            HeaderRead::Refused(number) => HeaderRead::Refused(number),
+            HeaderRead::Done { batch } => {
+                let offset = batch.offset;
+                let len = batch.len;
+                if buf.len() < len {
+                    return HeaderRead::Refused(refusal::BATCH_SHORT);
+                }
+                if batch.compression != 0 {
+                    return HeaderRead::Refused(refusal::COMPRESSED);
+                }
+                let broken = check_seals(buf, offset, len, signature);
+                if broken != refusal::NONE {
+                    return HeaderRead::Refused(broken);
+                }
+                HeaderRead::Done { batch }
+            }
+        }
+    }
+
     // A whole batch under a signature. Bytes past its length are not looked at; spans are in the body.
     pub fn decode(buf: &[u8], signature: u32) -> LogItemBatch
         ensures { λ r. ⌜ r ≡ readBatch (now (buf .entry)) signature ⌝ }
     {
-        match check_frame(buf, signature) {
+        match LogBatch::check_frame(buf, signature) {
             HeaderRead::Refused(number) => LogItemBatch::empty(number, 0),
             HeaderRead::Done { batch } => {
                 let offset = batch.offset;
@@ -106,6 +120,23 @@ impl LogBatch {
         }
     }
 
+    // Begins a whole batch whose body has this measure: decides every refusal, and where there is none writes header and block at the start
+    // of out; the body is to follow, and ends at the length that is answered. Else out is as it was. No body has more than 4294967295
+    // bytes: such a measure is a 22.
+    pub fn begin(m: Measured, items: usize, content: &[u8], out: &mut [u8]) -> Encoded
+        ensures { λ r. ⌜ FrontWritten m items (now (content .entry)) (now (out .entry)) r (now (out .exit)) ⌝ }
+    {
+        if 4294967295 < m.length {
+            return answer(refusal::OUTPUT_TOO_LONG, 0, 0);
+        }
+        let r = plan(m, items, content, out.len());
+        if r.length == 0 {
+            return r;
+        }
+        write_front(content, r.length, out);
+        r
+    }
+
     // Writes the table's items as a whole batch under a signature, from the start of out on, or leaves out as it was and says why. Of the
     // table only the items and the lengths of the entry rows count; `store` has the bytes that the items' spans lie in, `content` is the
     // block's. No items and no content: nothing is written, and the length is 0. A put whose key begins with the internal prefix is
@@ -124,11 +155,11 @@ impl LogBatch {
         let entries = table.entries;
         let rows = table.entry_count;
         let m = list_writer::measure(items, count, entries, rows, store, true);
-        let r = plan(m, count, content, out.len());
+        let r = LogBatch::begin(m, count, content, out);
         if r.length == 0 {
             return r;
         }
-        let at = write_front(content, r.length, out);
+        let at = r.length - m.length;
         list_writer::encode(items, count, entries, rows, store, signature, true, out, at);
         r
     }
@@ -148,11 +179,11 @@ impl LogBatch {
         let entries = table.entries;
         let rows = table.entry_count;
         let m = list_writer::measure(items, count, entries, rows, store, false);
-        let r = plan(m, count, content, out.len());
+        let r = LogBatch::begin(m, count, content, out);
         if r.length == 0 {
             return r;
         }
-        let at = write_front(content, r.length, out);
+        let at = r.length - m.length;
         list_writer::encode(
             items,
             count,
@@ -215,21 +246,20 @@ fn body_offset(content: &[u8]) -> usize
     LogBatch::HEADER_LEN + content.len() + LogBatch::CHECKSUM_LEN
 }
 
-// Writes the header of a batch of this length, and the block; answers where the body stands.
-fn write_front(content: &[u8], len: usize, out: &mut [u8]) -> usize
+// Writes the header of a batch of this length, and the block.
+fn write_front(content: &[u8], len: usize, out: &mut [u8])
     requires { ⌜ (length (now content) ≤ 2147483647) × (len < 72057594037927936) × Room (now out) 0 (frontBytes len (now content)) ⌝ }
-    ensures { λ r. ⌜ Stored (now (out .entry)) 0 (frontBytes len (now (content .entry))) r (now (out .exit)) ⌝ }
+    ensures { λ r. ⌜ now (out .exit) ≡ placed (now (out .entry)) 0 (frontBytes len (now (content .entry))) ⌝ }
 {
     let start = LogBatch::HEADER_LEN;
     let offset = body_offset(content);
     codec::encode_u64(len as u64 * 256, out, 0);
     codec::encode_u64(offset as u64, out, 8);
     if content.len() == 0 {
-        return offset;
+        return;
     }
     codec::write_bytes(content, out, start);
     codec::encode_u32_le(crc::crc32(content), out, start + content.len());
-    offset
 }
 
 // What the two words of a header state.
@@ -257,30 +287,6 @@ fn read_frame(first: u64, second: u64) -> HeaderRead
     }
 }
 
-// The frame of a batch whose header, length, compression type, block and checksum of the body are right.
-fn check_frame(buf: &[u8], signature: u32) -> HeaderRead
-    ensures { λ r. ⌜ headerGot r ≡ sealedBatch (now (buf .entry)) signature 0 ⌝ }
-{
-    match LogBatch::decode_header(buf) {
-        HeaderRead::Refused(number) => HeaderRead::Refused(number),
-        HeaderRead::Done { batch } => {
-            let offset = batch.offset;
-            let len = batch.len;
-            if buf.len() < len {
-                return HeaderRead::Refused(refusal::BATCH_SHORT);
-            }
-            if batch.compression != 0 {
-                return HeaderRead::Refused(refusal::COMPRESSED);
-            }
-            let broken = check_seals(buf, offset, len, signature);
-            if broken != refusal::NONE {
-                return HeaderRead::Refused(broken);
-            }
-            HeaderRead::Done { batch }
-        }
-    }
-}
-
 // The block, then the body's checksum: 0, or 5 or 6.
 fn check_seals(buf: &[u8], offset: usize, len: usize, signature: u32) -> u32
     requires { ⌜ (16 ≤ offset) × (offset ≤ len) × (len ≤ length (now buf)) ⌝ }
@@ -305,7 +311,7 @@ pub fn check_block(block: &[u8]) -> u32
 }
 
 // The length of a block's content.
-fn content_len(len: usize) -> usize
+pub fn content_len(len: usize) -> usize
     ensures { λ r. ⌜ r ≡ len - 4 ⌝ }
 {
     if len < LogBatch::CHECKSUM_LEN {

@@ -15,11 +15,11 @@ use Rattle.item_batch.specs.Reading.{readItems}
 use Rattle.item_batch.specs.Table.{agreeing}
 use Rattle.rows_reader.specs.Lent.{RowsRead}
 use Rattle.rows_reader.proofs.Reading.{left, same-answer}
 use Rattle.log_batch.specs.declared.LogBatch.{LogBatch}
-use Rattle.log_batch.specs.declared.BatchCheck.{BatchCheck}
+use Rattle.batch_rows.specs.declared.BatchCheck.{BatchCheck}
 use Rattle.log_batch.specs.Batch.{sealedBatch}
-use Rattle.log_batch.specs.Rows.{batchAnswer, bodyPlace, blockPlace, placeIf, BatchRead}
+use Rattle.batch_rows.specs.Rows.{batchAnswer, bodyPlace, blockPlace, placeIf, BatchRead}
 use Rattle.log_batch.proofs.Frames.{batch-part}
 
 abbrev pub checkAt : BodyCheck → Span → Span → BatchCheck
 checkAt check body block = record { check = check; body = placeIf check body; block = placeIf check block }

@@ -1,14 +1,14 @@
--- `log_batch::rows::read_rows` meets its contract.
+-- `batch_rows::read_rows` meets its contract.
 -- Assumes nothing.
-use Rattle.log_batch.proofs.RowsRead.{rows-refused, rows-read}
+use Rattle.batch_rows.proofs.RowsRead.{rows-refused, rows-read}
 use Rattle.log_batch.proofs.Frames.{batch-known}
 use native.Mathlib.Omega.{arith}
 use denote.Ref.{now}
 use Rattle.log_batch.specs.Header.{headerGot}
 use Rattle.log_item.proofs.Fields.{learnt}
 use borrow.Author.Needs.{needs}
-use Rattle.log_batch.proofs.rows.read_rows.Statement.{statement}
-use Rattle.log_batch.proofs.rows.read_rows.Tie as tie
+use Rattle.batch_rows.proofs.read_rows.Statement.{statement}
+use Rattle.batch_rows.proofs.read_rows.Tie as tie
 
 check-frame-requires : tie.Need-check-frame-requires
 check-frame-requires c κs = search needs

@@ -1,9 +1,9 @@
--- `log_batch::rows::with_places` meets its contract.
+-- `batch_rows::with_places` meets its contract.
 -- Assumes nothing.
-use Rattle.log_batch.proofs.RowsRead.{no-places, both-places}
+use Rattle.batch_rows.proofs.RowsRead.{no-places, both-places}
 use borrow.Author.Needs.{needs}
-use Rattle.log_batch.proofs.rows.with_places.Statement.{statement}
-use Rattle.log_batch.proofs.rows.with_places.Tie as tie
+use Rattle.batch_rows.proofs.with_places.Statement.{statement}
+use Rattle.batch_rows.proofs.with_places.Tie as tie
 
 enum-told : tie.Need-enum-told
 enum-told c = search needs

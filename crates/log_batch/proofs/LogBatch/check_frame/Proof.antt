@@ -1,12 +1,12 @@
--- `log_batch::check_frame` meets its contract.
+-- `log_batch::LogBatch::check_frame` meets its contract.
 -- Assumes nothing.
 use Rattle.log_item.proofs.Fields.{learnt}
 use Rattle.log_batch.specs.Header.{headerGot}
 use denote.Ref.{now}
 use Rattle.log_batch.proofs.Frames.{header-known, batch-refused, batch-short, batch-compressed, batch-broken, batch-good}
 use borrow.Author.Needs.{needs}
-use Rattle.log_batch.proofs.check_frame.Statement.{statement}
-use Rattle.log_batch.proofs.check_frame.Tie as tie
+use Rattle.log_batch.proofs.LogBatch.check_frame.Statement.{statement}
+use Rattle.log_batch.proofs.LogBatch.check_frame.Tie as tie
 
 decode-header-requires : tie.Need-decode-header-requires
 decode-header-requires c κs = search needs

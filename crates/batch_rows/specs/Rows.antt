@@ -19,10 +19,10 @@ use Rattle.list_writer.specs.Bytes.{bodyBytes}
 use Rattle.list_writer.specs.Answers.{laid}
 use Rattle.list_writer.specs.Rows.{rowCount, rowItems, entryLengths, measureRows}
 use Rattle.rows_reader.specs.Lent.{RowsRead}
 use Rattle.log_batch.specs.declared.LogBatch.{LogBatch}
-use Rattle.log_batch.specs.declared.BatchCheck.{BatchCheck}
+use Rattle.batch_rows.specs.declared.BatchCheck.{BatchCheck}
 use Rattle.log_batch.specs.Batch.{blockOf, bodyOf, contentLength, sealedBatch}
 use Rattle.log_batch.specs.Written.{framed, batchEncoded}
 
 -- what a batch comes to: its items, where they come to the block's content
 abbrev pub batchAnswer : List ℕ → Got LogBatch → Answer

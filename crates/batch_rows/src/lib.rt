@@ -1,25 +1,27 @@
 // Whole batches, read into rows of words that the caller lends, and written from them.
 ghost use mathlib.Core.Path.{_≡_};
-ghost use Rattle.log_batch.specs.Rows.{placeIf, BatchRead, RowsWritten};
-use crate::BatchCheck;
-use crate::HeaderRead;
-use crate::LogBatch;
-use crate::check_frame;
-use crate::content_len;
-use crate::plan;
-use crate::write_front;
+ghost use Rattle.batch_rows.specs.Rows.{placeIf, BatchRead, RowsWritten};
 use item_batch::BodyCheck;
 use item_batch::Wanted;
 use list_writer::Encoded;
+use log_batch::HeaderRead;
+use log_batch::LogBatch;
 use log_item::Span;
 use refusal::Refusal;
+
+// How much a batch holds, and where its body and its block stand; 0 0 where it is refused.
+pub struct BatchCheck {
+    pub check: BodyCheck,
+    pub body: Span,
+    pub block: Span,
+}
 
 // A whole batch under a signature, read as LogBatch::decode does, but into lent rows: seven words to an item and three to an entry. Where too
 // few are lent it is a 21. A refused batch leaves them as they were.
 pub fn read_rows(buf: &[u8], signature: u32, items: &mut [u64], entries: &mut [u64]) -> BatchCheck
     ensures { λ r. ⌜ BatchRead (now (buf .entry)) signature (now (items .entry)) (now (entries .entry)) r (now (items .exit)) (now (entries .exit)) ⌝ }
 {
-    match check_frame(buf, signature) {
+    match LogBatch::check_frame(buf, signature) {
         HeaderRead::Refused(number) => BatchCheck {
             check: BodyCheck::Refused(Refusal { number, item: 0 }),
             body: Span { at: 0, len: 0 },
@@ -36,7 +38,7 @@ pub fn read_rows(buf: &[u8], signature: u32, items: &mut [u64], entries: &mut [u
                 at: LogBatch::HEADER_LEN,
                 len: offset - LogBatch::HEADER_LEN,
             };
-            let wanted = Wanted::Exactly(content_len(block.len));
+            let wanted = Wanted::Exactly(log_batch::content_len(block.len));
             let check = rows_reader::read_items(&buf[offset..end], wanted, items, entries);
             with_places(check, body, block)
         }
@@ -76,11 +78,11 @@ pub fn write_rows(
     ensures { λ r. ⌜ RowsWritten checked (now (items .entry)) (now (entries .entry)) (now (store .entry)) (now (content .entry)) signature (now (out .entry)) r (now (out .exit)) ⌝ }
 {
     let m = list_writer::measure_rows(items, entries, store, checked);
-    let r = plan(m, items.len() / 7, content, out.len());
+    let r = LogBatch::begin(m, items.len() / 7, content, out);
     if r.length == 0 {
         return r;
     }
-    let at = write_front(content, r.length, out);
+    let at = r.length - m.length;
     list_writer::encode_rows(items, entries, store, signature, checked, out, at);
     r
 }
