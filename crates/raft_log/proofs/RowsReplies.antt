@@ -9,9 +9,9 @@ use Rattle.item_batch.specs.declared.BodyCheck.{BodyCheck}
 use Rattle.item_batch.specs.declared.BodyCheck.the-variants.{Accepted, Refused}
 use Rattle.item_batch.specs.Reading.{Answer}
 use Rattle.rows_reader.specs.Lent.{RowsRead}
-use Rattle.log_batch.specs.declared.BatchCheck.{BatchCheck}
+use Rattle.batch_rows.specs.declared.BatchCheck.{BatchCheck}
 use Rattle.log_batch.specs.Batch.{sealedBatch}
-use Rattle.log_batch.specs.Rows.{bodyPlace, blockPlace, placeIf, BatchRead}
+use Rattle.batch_rows.specs.Rows.{bodyPlace, blockPlace, placeIf, BatchRead}
 use Rattle.raft_log.specs.Reply.{Reply, reply}
 use Rattle.raft_log.specs.Answers.{checkReply}
 use Rattle.raft_log.specs.RowsRead.{RowsReplied, batchReply, BatchReplied}

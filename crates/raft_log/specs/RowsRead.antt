@@ -11,7 +11,7 @@ use Rattle.item_batch.specs.Reading.{Answer}
 use Rattle.item_batch.specs.Answers.{checkOf}
 use Rattle.rows_reader.specs.Lent.{fitting, itemsAfter, entriesAfter}
 use Rattle.log_batch.specs.Batch.{sealedBatch}
-use Rattle.log_batch.specs.Rows.{batchAnswer, bodyPlace, blockPlace}
+use Rattle.batch_rows.specs.Rows.{batchAnswer, bodyPlace, blockPlace}
 use Rattle.raft_log.specs.Reply.{Reply, reply}
 use Rattle.raft_log.specs.Answers.{checkReply}
 

@@ -6,9 +6,9 @@ ghost use Rattle.item_batch.specs.Body.{readBody};
 ghost use Rattle.raft_log.specs.Reply.{reply};
 ghost use Rattle.raft_log.specs.RowsRead.{RowsReplied, batchReply, BatchReplied};
 use crate::put_check;
+use batch_rows::BatchCheck;
 use item_batch::BodyCheck;
 use item_batch::Wanted;
-use log_batch::BatchCheck;
 
 // A body, read into rows.
 #[no_mangle]
@@ -50,7 +50,7 @@ pub extern "C" fn raft_log_read_batch(
 ) -> u32
     ensures { λ r. ⌜ BatchReplied (now («data» .entry)) signature (now (items .entry)) (now (entries .entry)) (reply r (now (answer .exit))) (now (items .exit)) (now (entries .exit)) ⌝ }
 {
-    let r = log_batch::read_rows(data, signature, items, entries);
+    let r = batch_rows::read_rows(data, signature, items, entries);
     put_batch(r, answer)
 }
 
