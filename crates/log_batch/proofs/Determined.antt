@@ -4,7 +4,7 @@ use mathlib.Core.Path.{_≡_, sym, _∙_}
 use denote.Ref.{now}
 use Rattle.one_answer.specs.OneAnswer.{OneAnswer}
 use Rattle.log_item.specs.declared.Span.{Span}
-use Rattle.item_batch.specs.declared.BodyCheck.{BodyCheck}
+use Rattle.body_check.specs.declared.BodyCheck.{BodyCheck}
 use Rattle.log_batch.specs.declared.BatchCheck.{BatchCheck}
 use Rattle.log_batch.specs.Header.{headerGot}
 use Rattle.log_batch.specs.declared.HeaderRead.{HeaderRead}
@@ -19,8 +19,6 @@ use Rattle.log_batch.proofs.LogBatch.encode.Kinds as encode-kinds
 use Rattle.log_batch.proofs.LogBatch.encode.Reads as encode-reads
 use Rattle.log_batch.proofs.LogBatch.encode_unchecked.Kinds as encode-unchecked-kinds
 use Rattle.log_batch.proofs.LogBatch.encode_unchecked.Reads as encode-unchecked-reads
-use Rattle.log_batch.proofs.check_block.Kinds as check-block-kinds
-use Rattle.log_batch.proofs.check_block.Reads as check-block-reads
 use Rattle.log_batch.proofs.rows.read_rows.Kinds as read-rows-kinds
 use Rattle.log_batch.proofs.rows.read_rows.Reads as read-rows-reads
 use Rattle.log_batch.proofs.rows.write_rows.Kinds as write-rows-kinds
@@ -76,9 +74,6 @@ read-rows κs a x y s t p q =
 pub write-rows : OneAnswer 5 write-rows-kinds.ps write-rows-kinds.r write-rows-reads.Post
     (λ κs x y s t. (x ≡ y) × (now (s .1 .1 .1 .1 .1 .1 .0) ≡ now (t .1 .1 .1 .1 .1 .1 .0)))
 write-rows κs a x y s t p q = let e : x ≡ y = p .answer ∙ sym (q .answer) in (e, p .written ∙ (rw e (sym (q .written))))
-
-pub check-block : OneAnswer 1 check-block-kinds.ps check-block-kinds.r check-block-reads.Post (λ κs x y s t. x ≡ y)
-check-block κs a x y s t p q = p ∙ sym q
 
 pub check-entry : OneAnswer 1 check-entry-kinds.ps check-entry-kinds.r check-entry-reads.Post (λ κs x y s t. x ≡ y)
 check-entry κs a x y s t p q = p ∙ sym q

@@ -11,7 +11,8 @@ use lib.Dec.{leb, eqb}
 use lib.ListN.{length, take, drop}
 use Rattle.pipe_log.specs.declared.LogQueue.the-variants.{Append, Rewrite}
 use Rattle.pipe_log.specs.declared.Location.{Location}
-use Rattle.log_batch.specs.Batch.{blockCheck, contentLength}
+use Rattle.seal.specs.Seal.{blockCheck}
+use Rattle.log_batch.specs.Batch.{contentLength}
 use Rattle.refusal.specs.First.{firstOf}
 use Rattle.log_batch.specs.View.{named, entryCheck, viewCheck, viewed}
 use Rattle.log_batch.proofs.Frames.{first-fails, first-passes}

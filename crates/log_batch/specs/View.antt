@@ -9,7 +9,8 @@ use Rattle.refusal.specs.First.{firstOf}
 use Rattle.pipe_log.specs.declared.LogQueue.{LogQueue}
 use Rattle.pipe_log.specs.declared.LogQueue.the-variants.{Append, Rewrite}
 use Rattle.pipe_log.specs.declared.Location.{Location}
-use Rattle.log_batch.specs.Batch.{blockCheck, contentLength}
+use Rattle.seal.specs.Seal.{blockCheck}
+use Rattle.log_batch.specs.Batch.{contentLength}
 
 abbrev pub named : LogQueue → List ℕ → List ℕ → List ℕ
 named Append append rewrite = append

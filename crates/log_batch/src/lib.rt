@@ -13,17 +13,17 @@ ghost use mathlib.Core.Bool.{true, false};
 ghost use Prim.Native.Nat.{_+_, _≤_, _<_, _-_};
 ghost use lib.ListN.{length, take, drop};
 ghost use Rattle.log_batch.specs.Header.{frame, header, headerGot};
-ghost use Rattle.log_batch.specs.Batch.{blockCheck, sealedBatch, readBatch};
+ghost use Rattle.log_batch.specs.Batch.{sealedBatch, readBatch};
 ghost use Rattle.log_batch.specs.Written.{blockBytes, frontBytes, batchEncoded, BatchWritten};
-ghost use Rattle.item_batch.specs.Seal.{sealCheck};
+ghost use Rattle.seal.specs.Seal.{sealCheck, blockCheck};
 ghost use Rattle.item_batch.specs.Writing.{listed, rowLengths};
 ghost use Rattle.item_writer.specs.Private.{Room, Stored};
 ghost use Rattle.refusal.specs.First.{firstOf};
 ghost use Rattle.log_batch.specs.Status.{statusOf};
+use body_check::BodyCheck;
+use body_check::Wanted;
 use codec::U64Read;
-use item_batch::BodyCheck;
 use item_batch::LogItemBatch;
-use item_batch::Wanted;
 use list_writer::Encoded;
 use list_writer::Measured;
 use log_item::LogItem;
@@ -294,21 +294,11 @@ fn check_seals(buf: &[u8], offset: usize, len: usize, signature: u32) -> u32
     ensures { λ r. ⌜ r ≡ firstOf (blockCheck (take (offset - 16) (drop 16 (now (buf .entry))))) (sealCheck (take (len - offset) (drop offset (now (buf .entry)))) signature) ⌝ }
 {
     let start = LogBatch::HEADER_LEN;
-    let broken = check_block(&buf[start..offset]);
+    let broken = seal::check_block(&buf[start..offset]);
     if broken != refusal::NONE {
         return broken;
     }
-    item_batch::check_seal(&buf[offset..len], signature)
-}
-
-// Whether a block is empty, or its last four bytes are the checksum of those before them: 0, or 5 or 6.
-pub fn check_block(block: &[u8]) -> u32
-    ensures { λ r. ⌜ r ≡ blockCheck (now (block .entry)) ⌝ }
-{
-    if block.len() == 0 {
-        return refusal::NONE;
-    }
-    item_batch::check_seal(block, 0)
+    seal::check_seal(&buf[offset..len], signature)
 }
 
 // The length of a block's content.

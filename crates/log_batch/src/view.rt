@@ -1,7 +1,6 @@
 // The bytes of an entry, as a part of the block that its row names.
 ghost use mathlib.Core.Path.{_≡_};
 ghost use Rattle.log_batch.specs.View.{named, entryCheck, viewCheck, viewed};
-use crate::check_block;
 use crate::content_len;
 use pipe_log::Location;
 use pipe_log::LogQueue;
@@ -51,7 +50,7 @@ pub fn check_entry(block: &[u8], long: u64, offset: u64, len: u64) -> u32
     if block.len() as u64 != long {
         return refusal::BLOCK_DIFFERS;
     }
-    let broken = check_block(block);
+    let broken = seal::check_block(block);
     if broken != refusal::NONE {
         return broken;
     }

@@ -12,10 +12,10 @@ use Rattle.codec.specs.declared.Wrote.the-variants as wrote
 use Rattle.log_item.specs.Got.{Got, got, refused}
 use Rattle.item_row.specs.declared.RowRead.{RowRead}
 use Rattle.item_row.specs.declared.RowRead.the-variants as row
-use Rattle.item_batch.specs.declared.BodyCheck.{BodyCheck}
-use Rattle.item_batch.specs.declared.BodyCheck.the-variants as check
-use Rattle.item_batch.specs.declared.PlainForm.{PlainForm}
-use Rattle.item_batch.specs.declared.PlainForm.the-variants as plain
+use Rattle.body_check.specs.declared.BodyCheck.{BodyCheck}
+use Rattle.body_check.specs.declared.BodyCheck.the-variants as check
+use Rattle.body_check.specs.declared.PlainForm.{PlainForm}
+use Rattle.body_check.specs.declared.PlainForm.the-variants as plain
 use Rattle.log_batch.specs.declared.LogBatch.{LogBatch}
 use Rattle.log_batch.specs.declared.AtomicGroupStatus.{AtomicGroupStatus}
 use Rattle.log_batch.specs.declared.AtomicGroupStatus.the-variants.{Begin, Middle, End}

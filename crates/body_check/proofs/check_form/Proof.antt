@@ -1,13 +1,13 @@
--- `item_batch::check_form` meets its contract: the item count, then the items.
+-- `body_check::check_form` meets its contract: the item count, then the items.
 -- Assumes nothing.
 use mathlib.Core.Path.{sym, ap, _∙_}
 use Rattle.log_item.specs.Answers.{fieldGot}
 use Rattle.log_item.proofs.Fields.{learnt}
-use Rattle.item_batch.specs.Answers.{checkOf}
-use Rattle.item_batch.proofs.Checking.{count-broken, count-many, count-good}
+use Rattle.body_check.specs.Answers.{checkOf}
+use Rattle.body_check.proofs.Checking.{count-broken, count-many, count-good}
 use borrow.Author.Needs.{needs}
-use Rattle.item_batch.proofs.check_form.Statement.{statement}
-use Rattle.item_batch.proofs.check_form.Tie as tie
+use Rattle.body_check.proofs.check_form.Statement.{statement}
+use Rattle.body_check.proofs.check_form.Tie as tie
 
 read-number-requires : tie.Need-read-number-requires
 read-number-requires c κs = search needs

@@ -15,14 +15,15 @@ use Rattle.log_item.specs.declared.Form.{Form}
 use Rattle.log_item.specs.declared.Form.the-variants.{Plain}
 use Rattle.log_item.specs.declared.LogItem.{LogItem}
 use Rattle.log_item.specs.declared.EntryIndex.{EntryIndex}
-use Rattle.item_batch.specs.declared.BodyCheck.{BodyCheck}
-use Rattle.item_batch.specs.declared.BodyCheck.the-variants.{Accepted, Refused}
-use Rattle.item_batch.specs.Reading.{Answer, accepted, rejected, before, inFront, items, count, readItems}
-use Rattle.item_batch.specs.declared.PlainForm.the-variants as plain
-use Rattle.item_batch.specs.Body.{readBody}
-use Rattle.item_batch.specs.Seal.{sealedPart, sealCheck}
-use Rattle.item_batch.specs.Answers.{checkOf, plainOf, plainBody}
-use Rattle.item_batch.proofs.Sealing.{seal-long, body-refused}
+use Rattle.body_check.specs.declared.BodyCheck.{BodyCheck}
+use Rattle.body_check.specs.declared.BodyCheck.the-variants.{Accepted, Refused}
+use Rattle.body_check.specs.Reading.{Answer, accepted, rejected, before, inFront, items, count, readItems}
+use Rattle.body_check.specs.declared.PlainForm.the-variants as plain
+use Rattle.body_check.specs.Body.{readBody}
+use Rattle.seal.specs.Seal.{sealedPart, sealCheck}
+use Rattle.body_check.specs.Answers.{checkOf, plainOf, plainBody}
+use Rattle.seal.proofs.Sealing.{seal-long}
+use Rattle.body_check.proofs.Bodies.{body-refused}
 
 -- ---- the item count
 

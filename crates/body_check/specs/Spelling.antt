@@ -8,7 +8,7 @@ use Rattle.log_item.specs.Spelling.{NumberIn, OneItem}
 use Rattle.log_item.specs.declared.Form.{Form}
 use Rattle.log_item.specs.declared.LogItem.{LogItem}
 use Rattle.log_item.specs.declared.EntryIndex.{EntryIndex}
-use Rattle.item_batch.specs.Limits.{Within}
+use Rattle.body_check.specs.Limits.{Within}
 
 module _ (Number : ℕ → List ℕ → Type 0) where
   -- Items from the place p on, each where the one before ended, with all their rows. The total runs on: t before them, u after them.

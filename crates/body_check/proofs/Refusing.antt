@@ -16,9 +16,9 @@ use Rattle.log_item.specs.Reading.{Read, numberGot, byte, number, span, command
 use Rattle.log_item.specs.declared.Form.the-variants.{Any}
 use Rattle.log_item.specs.declared.LogItem.{LogItem}
 use Rattle.log_item.specs.declared.EntryIndex.{EntryIndex}
-use Rattle.item_batch.specs.Seal.{sealedPart, sealCheck}
-use Rattle.item_batch.specs.Reading.{Answer, accepted, rejected, before, inFront, counted, items, count, readItems}
-use Rattle.item_batch.specs.Body.{unless, readBody}
+use Rattle.seal.specs.Seal.{sealedPart, sealCheck}
+use Rattle.body_check.specs.Reading.{Answer, accepted, rejected, before, inFront, counted, items, count, readItems}
+use Rattle.body_check.specs.Body.{unless, readBody}
 
 -- ---- a piece
 

@@ -1,14 +1,15 @@
--- `item_batch::check` meets its contract: the seal, then what stands before the footer.
+-- `body_check::check` meets its contract: the seal, then what stands before the footer.
 -- Assumes nothing.
 use mathlib.Core.Path.{sym, ap, _∙_}
 use denote.Ref.{now}
 use lib.Seq.{length-take-le}
-use Rattle.item_batch.specs.Answers.{checkOf}
-use Rattle.item_batch.proofs.Sealing.{seal-long, body-refused, body-sealed}
+use Rattle.body_check.specs.Answers.{checkOf}
+use Rattle.seal.proofs.Sealing.{seal-long}
+use Rattle.body_check.proofs.Bodies.{body-refused, body-sealed}
 use native.Mathlib.Omega.{arith}
 use borrow.Author.Needs.{needs}
-use Rattle.item_batch.proofs.check.Statement.{statement}
-use Rattle.item_batch.proofs.check.Tie as tie
+use Rattle.body_check.proofs.check.Statement.{statement}
+use Rattle.body_check.proofs.check.Tie as tie
 
 check-seal-requires : tie.Need-check-seal-requires
 check-seal-requires c κs = search needs

@@ -4,13 +4,13 @@ use Prim.Native.Nat.{ℕ}
 use mathlib.Core.List.{List}
 use lib.ListN.{length}
 use Rattle.log_item.specs.declared.Form.the-variants.{Plain}
-use Rattle.item_batch.specs.declared.BodyCheck.{BodyCheck}
-use Rattle.item_batch.specs.declared.BodyCheck.the-variants as check
-use Rattle.item_batch.specs.declared.PlainForm.{PlainForm}
-use Rattle.item_batch.specs.declared.PlainForm.the-variants as plain
-use Rattle.item_batch.specs.Reading.{Answer, accepted, rejected, readItems}
-use Rattle.item_batch.specs.Seal.{sealedPart}
-use Rattle.item_batch.specs.Body.{readBody}
+use Rattle.body_check.specs.declared.BodyCheck.{BodyCheck}
+use Rattle.body_check.specs.declared.BodyCheck.the-variants as check
+use Rattle.body_check.specs.declared.PlainForm.{PlainForm}
+use Rattle.body_check.specs.declared.PlainForm.the-variants as plain
+use Rattle.body_check.specs.Reading.{Answer, accepted, rejected, readItems}
+use Rattle.seal.specs.Seal.{sealedPart}
+use Rattle.body_check.specs.Body.{readBody}
 
 -- how many items and entries, the entry total and the place after the last item
 abbrev pub checkOf : Answer → BodyCheck

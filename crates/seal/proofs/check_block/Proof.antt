@@ -1,9 +1,9 @@
--- `log_batch::check_block` meets its contract.
+-- `seal::check_block` meets its contract.
 -- Assumes nothing.
-use Rattle.log_batch.proofs.Frames.{block-none, block-some}
+use Rattle.seal.proofs.Sealing.{block-none, block-some}
 use borrow.Author.Needs.{needs}
-use Rattle.log_batch.proofs.check_block.Statement.{statement}
-use Rattle.log_batch.proofs.check_block.Tie as tie
+use Rattle.seal.proofs.check_block.Statement.{statement}
+use Rattle.seal.proofs.check_block.Tie as tie
 
 returns : tie.Need-returns
 returns c = block-none _ (c .if1 .taken)

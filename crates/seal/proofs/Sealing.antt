@@ -1,6 +1,6 @@
--- What testing a seal comes to, a law for each way out of the code, and what the seal says of the body's reading.
+-- What testing a seal and a block comes to: a law for each way out of the code.
 -- Assumes nothing.
-use Prim.Native.Nat.{ℕ, zero, suc, _+_, _-_, _≤_, _<_}
+use Prim.Native.Nat.{ℕ, _+_, _-_, _≤_, _<_}
 use mathlib.Core.Path.{_≡_, refl, sym, ap, _∙_}
 use mathlib.Core.Bool.{Bool, true, false, cond}
 use mathlib.Core.List.{List}
@@ -13,10 +13,7 @@ use lib.Seq.{take-all}
 use Rattle.codec.specs.Word.{readU32}
 use Rattle.codec.specs.declared.U32Read.the-variants.{Done, Eof}
 use Rattle.crc.specs.Crc.{crcOf}
-use Rattle.log_item.specs.declared.Form.the-variants.{Any}
-use Rattle.item_batch.specs.Reading.{rejected, readItems}
-use Rattle.item_batch.specs.Seal.{sealedPart, footer, sealCheck}
-use Rattle.item_batch.specs.Body.{unless, readBody}
+use Rattle.seal.specs.Seal.{sealedPart, footer, sealCheck, blockCheck}
 
 module _ (b : List ℕ) (signature : ℕ) where
   pub seal-short : length b ≤ 4 → 5 ≡ sealCheck b signature
@@ -62,15 +59,12 @@ module _ (b : List ℕ) (signature : ℕ) where
       go true h f = absurd (omega arith)
       go false h f = leb-false (length b) 4 h
 
-  -- A broken seal is what the body's reading answers; behind a good one it is what stands before the footer.
-  pub body-refused : {n : ℕ} → n ≡ sealCheck b signature → (n ≡ 0 → ⊥) → readBody b signature ≡ rejected n 0
-  unfolding readBody
-  body-refused {n} e h = rw (← e) (go n h)
-    where
-      go : (m : ℕ) → (m ≡ 0 → ⊥) → unless m (readItems Any (sealedPart b)) ≡ rejected m 0
-      go zero k = absurd (k refl)
-      go (suc m) k = refl
+-- ---- a block
 
-  pub body-sealed : {n : ℕ} → n ≡ sealCheck b signature → n ≡ 0 → readBody b signature ≡ readItems Any (sealedPart b)
-  unfolding readBody
-  body-sealed e h = rw (← e, h)
+pub block-none : (b : List ℕ) → length b ≡ 0 → 0 ≡ blockCheck b
+unfolding blockCheck
+block-none b h = rw (eq-eqb _ _ h)
+
+pub block-some : (b : List ℕ) {r : ℕ} → (length b ≡ 0 → ⊥) → r ≡ sealCheck b 0 → r ≡ blockCheck b
+unfolding blockCheck
+block-some b h e = rw (ne-eqb _ _ h) e

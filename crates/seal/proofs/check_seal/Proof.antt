@@ -1,13 +1,13 @@
--- `item_batch::check_seal` meets its contract.
+-- `seal::check_seal` meets its contract.
 -- Assumes nothing.
 use mathlib.Core.Path.{sym, _∙_}
 use denote.Ref.{now}
 use lib.Seq.{length-take-le}
-use Rattle.item_batch.proofs.Sealing.{seal-short, seal-good, seal-wrong, seal-there}
+use Rattle.seal.proofs.Sealing.{seal-short, seal-good, seal-wrong, seal-there}
 use native.Mathlib.Omega.{arith}
 use borrow.Author.Needs.{needs}
-use Rattle.item_batch.proofs.check_seal.Statement.{statement}
-use Rattle.item_batch.proofs.check_seal.Tie as tie
+use Rattle.seal.proofs.check_seal.Statement.{statement}
+use Rattle.seal.proofs.check_seal.Tie as tie
 
 returns : tie.Need-returns
 returns c = seal-short _ _ (c .if1 .taken)

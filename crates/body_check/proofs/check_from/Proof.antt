@@ -1,12 +1,12 @@
--- `item_batch::check_from` meets its contract. The loop's invariant, `Left`: what is still to be read comes to what the whole comes to.
+-- `body_check::check_from` meets its contract. The loop's invariant, `Left`: what is still to be read comes to what the whole comes to.
 -- Assumes nothing.
 use Prim.Native.Nat.{_-_}
 use Rattle.log_item.specs.Answers.{itemGot}
 use Rattle.log_item.proofs.Fields.{learnt}
-use Rattle.item_batch.proofs.Checking.{Left, left-start, left-more, left-refused, left-end}
+use Rattle.body_check.proofs.Checking.{Left, left-start, left-more, left-refused, left-end}
 use borrow.Author.Needs.{needs}
-use Rattle.item_batch.proofs.check_from.Statement.{statement}
-use Rattle.item_batch.proofs.check_from.Tie as tie
+use Rattle.body_check.proofs.check_from.Statement.{statement}
+use Rattle.body_check.proofs.check_from.Tie as tie
 
 abbrev Inv-loop : tie.InvT-loop
 Inv-loop buf start count form i₀ at₀ total₀ used₀ i at total used = Left form buf count start i at total used

@@ -10,9 +10,9 @@ use Rattle.crc.specs.Crc.{crcOf}
 use Rattle.log_item.specs.declared.Form.the-variants.{Any}
 use Rattle.log_item.specs.declared.LogItem.{LogItem}
 use Rattle.log_item.specs.declared.EntryIndex.{EntryIndex}
-use Rattle.item_batch.specs.Reading.{Answer, rejected, readItems}
-use Rattle.item_batch.specs.Seal.{sealedPart, sealCheck}
-use Rattle.item_batch.specs.Spelling.{Begins}
+use Rattle.body_check.specs.Reading.{Answer, rejected, readItems}
+use Rattle.seal.specs.Seal.{sealedPart, sealCheck}
+use Rattle.body_check.specs.Spelling.{Begins}
 
 -- where nothing was refused, the answer; else the refusal, outside items
 abbrev pub unless : ℕ → Answer → Answer

@@ -6,8 +6,8 @@ use Rattle.log_item.specs.declared.Form.the-variants.{Plain}
 use Rattle.log_item.specs.declared.LogItem.{LogItem}
 use Rattle.log_item.specs.declared.EntryIndex.{EntryIndex}
 use Rattle.log_item.specs.Spelling.{NumberIn}
-use Rattle.item_batch.specs.Spelling.{Spells}
-use Rattle.item_batch.specs.Body.{Acceptable}
+use Rattle.body_check.specs.Spelling.{Spells}
+use Rattle.body_check.specs.Body.{Acceptable}
 
 -- A body is acceptable, and in the bytes that its list spells each number has the shortest spelling.
 pub record InPlainForm (body : List ℕ) (signature : ℕ) : Type 0 where

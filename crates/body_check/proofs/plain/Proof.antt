@@ -1,13 +1,13 @@
--- `item_batch::plain` meets its contract: the body by itself, then its numbers in their shortest spelling.
+-- `body_check::plain` meets its contract: the body by itself, then its numbers in their shortest spelling.
 -- Assumes nothing.
 use mathlib.Core.Path.{sym, _∙_}
 use denote.Ref.{now}
 use lib.Seq.{length-take-le}
-use Rattle.item_batch.proofs.Checking.{plain-refused, plain-yes, plain-no, accepted-long}
+use Rattle.body_check.proofs.Checking.{plain-refused, plain-yes, plain-no, accepted-long}
 use native.Mathlib.Omega.{arith}
 use borrow.Author.Needs.{needs}
-use Rattle.item_batch.proofs.plain.Statement.{statement}
-use Rattle.item_batch.proofs.plain.Tie as tie
+use Rattle.body_check.proofs.plain.Statement.{statement}
+use Rattle.body_check.proofs.plain.Tie as tie
 
 check-requires : tie.Need-check-requires
 check-requires c κs = search needs

@@ -19,3 +19,7 @@ footer b = littleEndian (drop (length b - 4) b)
 -- 5 where there are four bytes or fewer, 6 where the checksum is wrong, else 0
 unfoldable pub sealCheck : List ℕ → ℕ → ℕ
 sealCheck b signature = cond (leb (length b) 4) 5 (cond (eqb (footer b) (bitXor (crcOf (sealedPart b)) signature)) 0 6)
+
+-- a block: empty, or content and its unsigned checksum
+unfoldable pub blockCheck : List ℕ → ℕ
+blockCheck b = cond (eqb (length b) 0) 0 (sealCheck b 0)
