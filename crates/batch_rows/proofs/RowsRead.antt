@@ -8,11 +8,11 @@ use Rattle.log_item.specs.Got.{got, refused}
 use Rattle.log_item.specs.declared.Form.the-variants.{Any}
 use Rattle.log_item.specs.declared.Span.{Span}
 use Rattle.refusal.specs.declared.Refusal.{Refusal}
-use Rattle.item_batch.specs.declared.BodyCheck.{BodyCheck}
-use Rattle.item_batch.specs.declared.BodyCheck.the-variants.{Accepted, Refused}
-use Rattle.item_batch.specs.declared.Wanted.the-variants.{Exactly}
-use Rattle.item_batch.specs.Reading.{readItems}
-use Rattle.item_batch.specs.Table.{agreeing}
+use Rattle.body_check.specs.declared.BodyCheck.{BodyCheck}
+use Rattle.body_check.specs.declared.BodyCheck.the-variants.{Accepted, Refused}
+use Rattle.body_check.specs.declared.Wanted.the-variants.{Exactly}
+use Rattle.body_check.specs.Reading.{readItems}
+use Rattle.body_check.specs.Total.{agreeing}
 use Rattle.rows_reader.specs.Lent.{RowsRead}
 use Rattle.rows_reader.proofs.Reading.{left, same-answer}
 use Rattle.log_batch.specs.declared.LogBatch.{LogBatch}

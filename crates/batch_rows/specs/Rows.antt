@@ -8,12 +8,12 @@ use lib.ListN.{length}
 use Rattle.log_item.specs.Got.{Got, got, refused}
 use Rattle.log_item.specs.declared.Form.the-variants.{Any}
 use Rattle.log_item.specs.declared.Span.{Span}
-use Rattle.item_batch.specs.declared.BodyCheck.{BodyCheck}
-use Rattle.item_batch.specs.declared.BodyCheck.the-variants.{Accepted, Refused}
-use Rattle.item_batch.specs.declared.Wanted.the-variants.{Exactly}
-use Rattle.item_batch.specs.Reading.{Answer, rejected, readItems}
-use Rattle.item_batch.specs.Seal.{sealedPart}
-use Rattle.item_batch.specs.Table.{agreeing}
+use Rattle.body_check.specs.declared.BodyCheck.{BodyCheck}
+use Rattle.body_check.specs.declared.BodyCheck.the-variants.{Accepted, Refused}
+use Rattle.body_check.specs.declared.Wanted.the-variants.{Exactly}
+use Rattle.body_check.specs.Reading.{Answer, rejected, readItems}
+use Rattle.seal.specs.Seal.{sealedPart, contentLength}
+use Rattle.body_check.specs.Total.{agreeing}
 use Rattle.list_writer.specs.declared.Encoded.{Encoded}
 use Rattle.list_writer.specs.Bytes.{bodyBytes}
 use Rattle.list_writer.specs.Answers.{laid}
@@ -21,7 +21,7 @@ use Rattle.list_writer.specs.Rows.{rowCount, rowItems, entryLengths, measureRow
 use Rattle.rows_reader.specs.Lent.{RowsRead}
 use Rattle.log_batch.specs.declared.LogBatch.{LogBatch}
 use Rattle.batch_rows.specs.declared.BatchCheck.{BatchCheck}
-use Rattle.log_batch.specs.Batch.{blockOf, bodyOf, contentLength, sealedBatch}
+use Rattle.log_batch.specs.Batch.{blockOf, bodyOf, sealedBatch}
 use Rattle.log_batch.specs.Written.{framed, batchEncoded}
 
 -- what a batch comes to: its items, where they come to the block's content

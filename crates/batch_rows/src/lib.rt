@@ -1,8 +1,8 @@
 // Whole batches, read into rows of words that the caller lends, and written from them.
 ghost use mathlib.Core.Path.{_≡_};
 ghost use Rattle.batch_rows.specs.Rows.{placeIf, BatchRead, RowsWritten};
-use item_batch::BodyCheck;
-use item_batch::Wanted;
+use body_check::BodyCheck;
+use body_check::Wanted;
 use list_writer::Encoded;
 use log_batch::HeaderRead;
 use log_batch::LogBatch;
@@ -38,7 +38,7 @@ pub fn read_rows(buf: &[u8], signature: u32, items: &mut [u64], entries: &mut [u
                 at: LogBatch::HEADER_LEN,
                 len: offset - LogBatch::HEADER_LEN,
             };
-            let wanted = Wanted::Exactly(log_batch::content_len(block.len));
+            let wanted = Wanted::Exactly(seal::content_len(block.len));
             let check = rows_reader::read_items(&buf[offset..end], wanted, items, entries);
             with_places(check, body, block)
         }

@@ -10,12 +10,13 @@ use Rattle.refusal.specs.declared.Refusal.{Refusal}
 use Rattle.log_item.specs.declared.Span.{Span}
 use Rattle.log_item.specs.declared.LogItem.{LogItem}
 use Rattle.log_item.specs.declared.EntryIndex.{EntryIndex}
-use Rattle.item_batch.specs.Reading.{Answer, accepted, rejected}
+use Rattle.body_check.specs.Reading.{Answer, accepted, rejected}
 use Rattle.log_item.specs.Blank.{blankItem, blankEntry}
-use Rattle.item_batch.specs.Table.{emptyTable, tableOf, agreeing}
+use Rattle.body_check.specs.Total.{agreeing}
+use Rattle.item_batch.specs.Table.{emptyTable, tableOf}
 use Rattle.item_batch.specs.declared.LogItemBatch.{LogItemBatch}
-use Rattle.item_batch.specs.declared.Wanted.{Wanted}
-use Rattle.item_batch.specs.declared.Wanted.the-variants.{Free, Exactly}
+use Rattle.body_check.specs.declared.Wanted.{Wanted}
+use Rattle.body_check.specs.declared.Wanted.the-variants.{Free, Exactly}
 use Rattle.item_batch.proofs.Rows.{rows-length, rows-pad}
 use Rattle.item_batch.proofs.Filling.{Filling}
 

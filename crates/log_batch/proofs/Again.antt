@@ -21,12 +21,13 @@ use Rattle.crc.proofs.Laws.{crc-lt}
 use Rattle.log_item.specs.Got.{got}
 use Rattle.log_item.specs.declared.LogItem.{LogItem}
 use Rattle.list_writer.specs.Bytes.{itemsBytes, listBytes, footed, bodyBytes}
-use Rattle.item_batch.specs.Seal.{sealCheck}
+use Rattle.seal.specs.Seal.{sealCheck, blockCheck, contentLength}
 use Rattle.one_reading.proofs.Bodies.{sealed-of}
 use Rattle.log_batch.specs.Header.{frame, header}
-use Rattle.log_batch.specs.Batch.{blockOf, bodyOf, blockCheck, contentLength, sealedBatch}
+use Rattle.log_batch.specs.Batch.{blockOf, bodyOf, sealedBatch}
 use Rattle.log_batch.specs.Written.{blockBytes, headerBytes, frontBytes, framed, frameOf}
-use Rattle.log_batch.proofs.Frames.{frame-good, block-none, block-some, first-passes, batch-good}
+use Rattle.seal.proofs.Sealing.{block-none, block-some, first-passes}
+use Rattle.log_batch.proofs.Frames.{frame-good, batch-good}
 use Rattle.log_batch.proofs.Planning.{filled-block, block-empty, block-filled, header-length, front-length}
 
 -- Bytes and their checksum XOR a signature are a right seal.

@@ -20,12 +20,6 @@ use Rattle.log_batch.proofs.LogBatch.encode.Kinds as encode-kinds
 use Rattle.log_batch.proofs.LogBatch.encode.Reads as encode-reads
 use Rattle.log_batch.proofs.LogBatch.encode_unchecked.Kinds as encode-unchecked-kinds
 use Rattle.log_batch.proofs.LogBatch.encode_unchecked.Reads as encode-unchecked-reads
-use Rattle.log_batch.proofs.check_block.Kinds as check-block-kinds
-use Rattle.log_batch.proofs.check_block.Reads as check-block-reads
-use Rattle.log_batch.proofs.view.check_entry.Kinds as check-entry-kinds
-use Rattle.log_batch.proofs.view.check_entry.Reads as check-entry-reads
-use Rattle.log_batch.proofs.view.entry_view.Kinds as entry-view-kinds
-use Rattle.log_batch.proofs.view.entry_view.Reads as entry-view-reads
 
 -- An answer says in the words of the definitions all that it says.
 header-same : (a b : HeaderRead) → headerGot a ≡ headerGot b → a ≡ b
@@ -54,12 +48,3 @@ encode κs a x y s t p q = let e : x ≡ y = p .answer ∙ sym (q .answer) in (e
 
 pub encode-unchecked : OneAnswer 3 encode-unchecked-kinds.ps encode-unchecked-kinds.r encode-unchecked-reads.Post (λ κs x y s t. (x ≡ y) × (now (s .1 .1 .1 .1 .0) ≡ now (t .1 .1 .1 .1 .0)))
 encode-unchecked κs a x y s t p q = let e : x ≡ y = p .answer ∙ sym (q .answer) in (e, p .written ∙ (rw e (sym (q .written))))
-
-pub check-block : OneAnswer 1 check-block-kinds.ps check-block-kinds.r check-block-reads.Post (λ κs x y s t. x ≡ y)
-check-block κs a x y s t p q = p ∙ sym q
-
-pub check-entry : OneAnswer 1 check-entry-kinds.ps check-entry-kinds.r check-entry-reads.Post (λ κs x y s t. x ≡ y)
-check-entry κs a x y s t p q = p ∙ sym q
-
-pub entry-view : OneAnswer 2 entry-view-kinds.ps entry-view-kinds.r entry-view-reads.Post (λ κs x y s t. (now x ≡ now y) × (now (s .1 .1 .1 .0) ≡ now (t .1 .1 .1 .0)))
-entry-view κs a x y s t p q = (p .1 ∙ sym (q .1), p .0 ∙ sym (q .0))

@@ -14,14 +14,15 @@ use Rattle.log_item.specs.Got.{got, refused, done, _>>_}
 use Rattle.log_item.specs.declared.Form.the-variants.{Any}
 use Rattle.log_item.proofs.Holds.{Holds, holds, after, at-most, equal, of-got}
 use Rattle.item_batch.specs.declared.LogItemBatch.{LogItemBatch}
-use Rattle.item_batch.specs.declared.Wanted.the-variants.{Exactly}
-use Rattle.item_batch.specs.Reading.{readItems}
-use Rattle.item_batch.specs.Seal.{sealedPart, sealCheck}
-use Rattle.item_batch.specs.Table.{emptyTable, tableOf, agreeing}
-use Rattle.item_batch.proofs.Sealing.{seal-long}
+use Rattle.body_check.specs.declared.Wanted.the-variants.{Exactly}
+use Rattle.body_check.specs.Reading.{readItems}
+use Rattle.seal.specs.Seal.{sealedPart, sealCheck, blockCheck, contentLength}
+use Rattle.body_check.specs.Total.{agreeing}
+use Rattle.item_batch.specs.Table.{emptyTable, tableOf}
+use Rattle.seal.proofs.Sealing.{seal-long}
 use Rattle.log_batch.specs.declared.LogBatch.{LogBatch}
 use Rattle.log_batch.specs.Header.{frame, header}
-use Rattle.log_batch.specs.Batch.{blockOf, bodyOf, blockCheck, contentLength, passes, sealedBatch, readBatch}
+use Rattle.log_batch.specs.Batch.{blockOf, bodyOf, passes, sealedBatch, readBatch}
 use Rattle.refusal.specs.First.{firstOf}
 
 -- ---- the two words
@@ -86,22 +87,6 @@ module _ (s : List ℕ) where
   header-known e = of-got (header-holds 0) e
 
 -- ---- one check after the other
-
-pub first-fails : {n : ℕ} (m r : ℕ) → n ≡ m → (n ≡ 0 → ⊥) → n ≡ firstOf m r
-first-fails zero r e h = absurd (h e)
-first-fails (suc m) r e h = e
-
-pub first-passes : {n x : ℕ} (m r : ℕ) → n ≡ m → n ≡ 0 → x ≡ r → x ≡ firstOf m r
-first-passes zero r e h f = f
-first-passes (suc m) r e h f = absurd (omega arith)
-
-pub block-none : (b : List ℕ) → length b ≡ 0 → 0 ≡ blockCheck b
-unfolding blockCheck
-block-none b h = rw (eq-eqb _ _ h)
-
-pub block-some : (b : List ℕ) {r : ℕ} → (length b ≡ 0 → ⊥) → r ≡ sealCheck b 0 → r ≡ blockCheck b
-unfolding blockCheck
-block-some b h e = rw (ne-eqb _ _ h) e
 
 some : (m : ℕ) → suc m ≡ 0 → ⊥
 some m e = omega arith

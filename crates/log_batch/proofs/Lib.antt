@@ -1,7 +1,6 @@
 pub mod Frames
 pub mod Planning
 pub mod Framing
-pub mod Views
 pub mod Determined
 pub mod Again
 pub mod Theorems

@@ -22,16 +22,17 @@ use Rattle.list_writer.specs.declared.Encoded.{Encoded}
 use Rattle.list_writer.specs.Bytes.{itemsBytes, listBytes, bodyBytes}
 use Rattle.list_writer.specs.Refusing.{fine, itemsVerdict, listVerdict}
 use Rattle.list_writer.specs.Answers.{measuredOf, measureOf, encoded, laid}
-use Rattle.item_batch.specs.Reading.{accepted, rejected, Answer, readItems}
-use Rattle.item_batch.specs.Body.{readBody, Acceptable}
-use Rattle.item_batch.specs.declared.Wanted.the-variants.{Exactly}
+use Rattle.body_check.specs.Reading.{accepted, rejected, Answer, readItems}
+use Rattle.body_check.specs.Body.{readBody, Acceptable}
+use Rattle.body_check.specs.declared.Wanted.the-variants.{Exactly}
 use Rattle.item_batch.specs.Writing.{listed, rowLengths, BodyWritten, bodyItems, bodyRows, keysAndContents, AllSmall}
 use Rattle.item_batch.specs.declared.LogItemBatch.{LogItemBatch}
 use Rattle.one_reading.proofs.Written.{written-spelled, written-bytes, written-kept, read-back, other-signature, table-small, buffer-written, buffer-read-back}
-use Rattle.item_batch.specs.Table.{tableOf, emptyTable, agreeing}
+use Rattle.body_check.specs.Total.{agreeing}
+use Rattle.item_batch.specs.Table.{tableOf, emptyTable}
 use Rattle.log_batch.specs.declared.LogBatch.{LogBatch}
 use Rattle.log_batch.specs.Header.{frame, header}
-use Rattle.log_batch.specs.Batch.{blockOf, bodyOf, contentLength, sealedBatch, batchTable, readBatch}
+use Rattle.log_batch.specs.Batch.{blockOf, bodyOf, sealedBatch, batchTable, readBatch}
 use Rattle.log_batch.specs.Written.{blockBytes, framed, frameOf, batchEncoded, BatchWritten}
 use Rattle.log_batch.specs.Examples.{AllRight, table}
 use Rattle.log_batch.proofs.Frames.{header-known, batch-known}
@@ -46,13 +47,13 @@ use Rattle.log_item.specs.declared.Form.the-variants.{Any, Plain}
 use Rattle.log_item.specs.Rows.{Joined}
 use Rattle.log_item.specs.Spelling.{NumberIn}
 use Rattle.one_reading.proofs.Numbers.{Asks}
-use Rattle.item_batch.specs.declared.BodyCheck.the-variants as check
-use Rattle.item_batch.specs.declared.PlainForm.the-variants as plain
-use Rattle.item_batch.specs.Spelling.{Spells, list, Begins}
-use Rattle.item_batch.specs.Seal.{sealedPart}
-use Rattle.item_batch.specs.Rows.{Indexed}
-use Rattle.item_batch.specs.Plain.{InPlainForm}
-use Rattle.item_batch.specs.Answers.{checkOf, yesNo, plainBody}
+use Rattle.body_check.specs.declared.BodyCheck.the-variants as check
+use Rattle.body_check.specs.declared.PlainForm.the-variants as plain
+use Rattle.body_check.specs.Spelling.{Spells, list, Begins}
+use Rattle.seal.specs.Seal.{sealedPart, contentLength}
+use Rattle.body_check.specs.Rows.{Indexed}
+use Rattle.body_check.specs.Plain.{InPlainForm}
+use Rattle.body_check.specs.Answers.{checkOf, yesNo, plainBody}
 use Rattle.one_reading.proofs.Accepts.{of-accepted}
 use Rattle.one_reading.proofs.Listing.{complete, sound, items-joined, items-indexed}
 use Rattle.one_reading.proofs.One.{one-spelled}

@@ -1,5 +1,4 @@
 pub mod Header
 pub mod Batch
 pub mod Written
-pub mod View
 pub mod Examples

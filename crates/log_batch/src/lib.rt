@@ -1,23 +1,19 @@
-// Whole batches, read and written: header, block and body; and the bytes of an entry. From log_batch.rs, LogBatch.
-mod view;
-
-pub use view::check_entry;
-pub use view::entry_view;
+// Whole batches, read and written: header, block and body. From log_batch.rs, LogBatch.
 ghost use mathlib.Core.Path.{_≡_};
 ghost use mathlib.Core.Bool.{true, false};
 ghost use Prim.Native.Nat.{_+_, _≤_, _<_, _-_};
 ghost use lib.ListN.{length, take, drop};
 ghost use Rattle.log_batch.specs.Header.{frame, header, headerGot};
-ghost use Rattle.log_batch.specs.Batch.{blockCheck, sealedBatch, readBatch};
+ghost use Rattle.log_batch.specs.Batch.{sealedBatch, readBatch};
 ghost use Rattle.log_batch.specs.Written.{blockBytes, frontBytes, batchEncoded, FrontWritten, BatchWritten};
-ghost use Rattle.item_batch.specs.Seal.{sealCheck};
+ghost use Rattle.seal.specs.Seal.{sealCheck, blockCheck};
 ghost use Rattle.item_batch.specs.Writing.{listed, rowLengths};
 ghost use Rattle.codec.specs.Write.{placed};
 ghost use Rattle.item_writer.specs.Private.{Room};
 ghost use Rattle.refusal.specs.First.{firstOf};
+use body_check::Wanted;
 use codec::U64Read;
 use item_batch::LogItemBatch;
-use item_batch::Wanted;
 use list_writer::Encoded;
 use list_writer::Measured;
 use log_item::Span;
@@ -112,7 +108,7 @@ impl LogBatch {
                 };
                 LogItemBatch::fill(
                     &buf[offset..end],
-                    Wanted::Exactly(content_len(block.len)),
+                    Wanted::Exactly(seal::content_len(block.len)),
                     body,
                     block,
                 )
@@ -293,29 +289,9 @@ fn check_seals(buf: &[u8], offset: usize, len: usize, signature: u32) -> u32
     ensures { λ r. ⌜ r ≡ firstOf (blockCheck (take (offset - 16) (drop 16 (now (buf .entry))))) (sealCheck (take (len - offset) (drop offset (now (buf .entry)))) signature) ⌝ }
 {
     let start = LogBatch::HEADER_LEN;
-    let broken = check_block(&buf[start..offset]);
+    let broken = seal::check_block(&buf[start..offset]);
     if broken != refusal::NONE {
         return broken;
     }
-    item_batch::check_seal(&buf[offset..len], signature)
-}
-
-// Whether a block is empty, or its last four bytes are the checksum of those before them: 0, or 5 or 6.
-pub fn check_block(block: &[u8]) -> u32
-    ensures { λ r. ⌜ r ≡ blockCheck (now (block .entry)) ⌝ }
-{
-    if block.len() == 0 {
-        return refusal::NONE;
-    }
-    item_batch::check_seal(block, 0)
-}
-
-// The length of a block's content.
-pub fn content_len(len: usize) -> usize
-    ensures { λ r. ⌜ r ≡ len - 4 ⌝ }
-{
-    if len < LogBatch::CHECKSUM_LEN {
-        return 0;
-    }
-    len - LogBatch::CHECKSUM_LEN
+    seal::check_seal(&buf[offset..len], signature)
 }

@@ -13,7 +13,7 @@ use Rattle.atomic_status.specs.declared.AtomicGroupStatus.{AtomicGroupStatus}
 use Rattle.atomic_status.specs.declared.StatusRead.{StatusRead}
 use Rattle.atomic_status.specs.declared.StatusRead.the-variants.{Mark}
 use Rattle.atomic_status.specs.Status.{statusOf}
-use Rattle.log_batch.specs.View.{entryCheck}
+use Rattle.entry_view.specs.View.{entryCheck}
 use Rattle.raft_log.specs.Reply.{Reply, reply}
 use Rattle.raft_log.specs.Answers.{queueCheck, viewReply, viewOf, markOf, statusReply, rowStatus}
 

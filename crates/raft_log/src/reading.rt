@@ -1,14 +1,14 @@
 // Bodies and batches, read into rows of words that the caller lends.
 ghost use mathlib.Core.Path.{_≡_};
 ghost use Rattle.log_item.specs.declared.Form.the-variants.{Any};
-ghost use Rattle.item_batch.specs.Reading.{readItems};
-ghost use Rattle.item_batch.specs.Body.{readBody};
+ghost use Rattle.body_check.specs.Reading.{readItems};
+ghost use Rattle.body_check.specs.Body.{readBody};
 ghost use Rattle.raft_log.specs.Reply.{reply};
 ghost use Rattle.raft_log.specs.RowsRead.{RowsReplied, batchReply, BatchReplied};
 use crate::put_check;
 use batch_rows::BatchCheck;
-use item_batch::BodyCheck;
-use item_batch::Wanted;
+use body_check::BodyCheck;
+use body_check::Wanted;
 
 // A body, read into rows.
 #[no_mangle]

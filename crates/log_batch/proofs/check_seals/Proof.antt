@@ -1,6 +1,6 @@
 -- `log_batch::check_seals` meets its contract: the block first.
 -- Assumes nothing.
-use Rattle.log_batch.proofs.Frames.{first-fails, first-passes}
+use Rattle.seal.proofs.Sealing.{first-fails, first-passes}
 use borrow.Author.Needs.{needs}
 use Rattle.log_batch.proofs.check_seals.Statement.{statement}
 use Rattle.log_batch.proofs.check_seals.Tie as tie

@@ -3,8 +3,9 @@
 use mathlib.Core.Path.{sym, ap, _∙_}
 use lib.Seq.{length-take-le}
 use Rattle.item_batch.specs.Table.{tableOf}
-use Rattle.item_batch.specs.declared.Wanted.the-variants.{Free}
-use Rattle.item_batch.proofs.Sealing.{seal-long, body-refused, body-sealed}
+use Rattle.body_check.specs.declared.Wanted.the-variants.{Free}
+use Rattle.seal.proofs.Sealing.{seal-long}
+use Rattle.body_check.proofs.Bodies.{body-refused, body-sealed}
 use Rattle.item_batch.proofs.Tables.{refused-table}
 use borrow.Author.Needs.{needs}
 use native.Mathlib.Omega.{arith}
