@@ -14,7 +14,18 @@ use Rattle.pipe_log.specs.declared.Location.{Location}
 use Rattle.seal.specs.Seal.{blockCheck, contentLength}
 use Rattle.refusal.specs.First.{firstOf}
 use Rattle.entry_view.specs.View.{named, entryCheck, viewCheck, viewed}
-use Rattle.seal.proofs.Sealing.{first-fails, first-passes}
+
+-- ---- one check after the other
+
+first-fails : {n : ℕ} (m r : ℕ) → n ≡ m → (n ≡ 0 → ⊥) → n ≡ firstOf m r
+first-fails zero r e h = absurd (h e)
+first-fails (suc m) r e h = e
+
+first-passes : {n x : ℕ} (m r : ℕ) → n ≡ m → n ≡ 0 → x ≡ r → x ≡ firstOf m r
+first-passes zero r e h f = f
+first-passes (suc m) r e h f = absurd (omega arith)
+
+-- ---- an entry and its block
 
 module _ (block : List ℕ) (long offset len : ℕ) where
   pub entry-differs : (length block ≡ long → ⊥) → 20 ≡ entryCheck long offset len block

@@ -7,8 +7,6 @@ use denote.Ref.{now}
 use Rattle.one_answer.specs.OneAnswer.{OneAnswer}
 use Rattle.item_batch.proofs.LogItemBatch.empty.Kinds as empty-kinds
 use Rattle.item_batch.proofs.LogItemBatch.empty.Reads as empty-reads
-use Rattle.item_batch.proofs.LogItemBatch.fill.Kinds as fill-kinds
-use Rattle.item_batch.proofs.LogItemBatch.fill.Reads as fill-reads
 use Rattle.item_batch.proofs.read_items.Kinds as read-items-kinds
 use Rattle.item_batch.proofs.read_items.Reads as read-items-reads
 use Rattle.item_batch.proofs.LogItemBatch.decode.Kinds as decode-kinds
@@ -26,9 +24,6 @@ same-later out bs e p q = p ∙ ap (λ (r : Encoded). laid r out 0 bs) e ∙ sym
 
 pub empty : OneAnswer 0 empty-kinds.ps empty-kinds.r empty-reads.Post (λ κs x y s t. x ≡ y)
 empty κs a x y s t p q = p ∙ sym q
-
-pub fill : OneAnswer 1 fill-kinds.ps fill-kinds.r fill-reads.Post (λ κs x y s t. x ≡ y)
-fill κs a x y s t p q = p ∙ sym q
 
 pub read-items : OneAnswer 1 read-items-kinds.ps read-items-kinds.r read-items-reads.Post (λ κs x y s t. x ≡ y)
 read-items κs a x y s t p q = p ∙ sym q

@@ -4,11 +4,9 @@ ghost use lib.ListN.{length};
 ghost use Rattle.body_check.specs.Reading.{readItems};
 ghost use Rattle.body_check.specs.Body.{readBody};
 ghost use Rattle.log_item.specs.Blank.{blankItem, blankEntry};
-ghost use Rattle.body_check.specs.Total.{agreeing};
 ghost use Rattle.item_batch.specs.Table.{emptyTable, tableOf};
 ghost use Rattle.item_batch.specs.Writing.{BodyWritten};
 ghost use mathlib.Core.Bool.{true, false};
-use body_check::Wanted;
 use codec::NumberRead;
 use list_writer::Encoded;
 use log_item::EntryIndex;
@@ -63,11 +61,7 @@ fn blank_entry() -> EntryIndex
 pub fn read_items(buf: &[u8]) -> LogItemBatch
     ensures { λ r. ⌜ r ≡ tableOf (record { at = 0; len = length (now (buf .entry)) }) (record { at = 0; len = 0 }) (readItems Form.Any (now (buf .entry))) ⌝ }
 {
-    let body = Span {
-        at: 0,
-        len: buf.len(),
-    };
-    LogItemBatch::fill(buf, Wanted::Free, body, Span { at: 0, len: 0 })
+    LogItemBatch::fill(buf, buf.len())
 }
 
 impl LogItemBatch {
@@ -98,18 +92,13 @@ impl LogItemBatch {
         if broken != refusal::NONE {
             return LogItemBatch::empty(broken, 0);
         }
-        let whole = Span {
-            at: 0,
-            len: body.len(),
-        };
         let n = body.len() - 4;
-        LogItemBatch::fill(&body[..n], Wanted::Free, whole, Span { at: 0, len: 0 })
+        LogItemBatch::fill(&body[..n], body.len())
     }
 
-    // The table of a body without its footer, where it comes to the entry total that is wanted (else 20), with the places of body and
-    // block that it is to state. The one loop that fills a table.
-    pub fn fill(buf: &[u8], wanted: Wanted, body: Span, block: Span) -> LogItemBatch
-        ensures { λ r. ⌜ r ≡ tableOf body block (agreeing wanted (readItems Form.Any (now (buf .entry)))) ⌝ }
+    // The table of a body without its footer; `len` is how long a body it states, from 0 on. The one loop that fills a table.
+    fn fill(buf: &[u8], len: usize) -> LogItemBatch
+        ensures { λ r. ⌜ r ≡ tableOf (record { at = 0; len = len }) (record { at = 0; len = 0 }) (readItems Form.Any (now (buf .entry))) ⌝ }
     {
         let NumberRead::Done { value, next: start } = codec::decode_var_u64(buf, 0) else {
             return LogItemBatch::empty(refusal::NUMBER_BROKEN, 0);
@@ -159,17 +148,12 @@ impl LogItemBatch {
                     }
                 }
             } else {
-                if let Wanted::Exactly(n) = wanted {
-                    if total as usize != n {
-                        return LogItemBatch::empty(refusal::BLOCK_DIFFERS, 0);
-                    }
-                }
+                let body = Span { at: 0, len };
                 t.item_count = i;
                 t.entry_count = j;
                 t.total = total;
                 t.next = at;
                 t.body = body;
-                t.block = block;
                 return t;
             }
         }

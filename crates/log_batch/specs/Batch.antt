@@ -26,13 +26,19 @@ bodyOf h s = take (h .len - h .offset) (drop (h .offset) s)
 abbrev pub passes : ℕ → Test
 passes r = eqb r 0 else r
 
--- the frame of a batch, up to the checksum of its body
-unfoldable pub sealedBatch : List ℕ → ℕ → Reading LogBatch
-sealedBatch s signature = do
+-- the frame of a batch, up to its block
+unfoldable pub frontBatch : List ℕ → Reading LogBatch
+frontBatch s = do
   h ← header s
   leb (h .len) (length s) else 18
   eqb (h .compression) 0 else 19
   passes (blockCheck (blockOf h s))
+  done h
+
+-- and the checksum of its body
+unfoldable pub sealedBatch : List ℕ → ℕ → Reading LogBatch
+sealedBatch s signature = do
+  h ← frontBatch s
   passes (sealCheck (bodyOf h s) signature)
   done h
 

@@ -4,14 +4,11 @@ ghost use mathlib.Core.Bool.{true, false};
 ghost use Prim.Native.Nat.{_+_, _≤_, _<_, _-_};
 ghost use lib.ListN.{length, take, drop};
 ghost use Rattle.log_batch.specs.Header.{frame, header, headerGot};
-ghost use Rattle.log_batch.specs.Batch.{sealedBatch, readBatch};
+ghost use Rattle.log_batch.specs.Batch.{frontBatch, sealedBatch, readBatch};
 ghost use Rattle.log_batch.specs.Written.{blockBytes, frontBytes, batchEncoded, FrontWritten, BatchWritten};
-ghost use Rattle.seal.specs.Seal.{sealCheck, blockCheck};
 ghost use Rattle.item_batch.specs.Writing.{listed, rowLengths};
 ghost use Rattle.codec.specs.Write.{placed};
 ghost use Rattle.item_writer.specs.Private.{Room};
-ghost use Rattle.refusal.specs.First.{firstOf};
-use body_check::Wanted;
 use codec::U64Read;
 use item_batch::LogItemBatch;
 use list_writer::Encoded;
@@ -69,18 +66,12 @@ impl LogBatch {
     pub fn check_frame(buf: &[u8], signature: u32) -> HeaderRead
         ensures { λ r. ⌜ headerGot r ≡ sealedBatch (now (buf .entry)) signature 0 ⌝ }
     {
-        match LogBatch::decode_header(buf) {
+        match check_front(buf) {
             HeaderRead::Refused(number) => HeaderRead::Refused(number),
             HeaderRead::Done { batch } => {
                 let offset = batch.offset;
                 let len = batch.len;
-                if buf.len() < len {
-                    return HeaderRead::Refused(refusal::BATCH_SHORT);
-                }
-                if batch.compression != 0 {
-                    return HeaderRead::Refused(refusal::COMPRESSED);
-                }
-                let broken = check_seals(buf, offset, len, signature);
+                let broken = seal::check_seal(&buf[offset..len], signature);
                 if broken != refusal::NONE {
                     return HeaderRead::Refused(broken);
                 }
@@ -93,25 +84,29 @@ impl LogBatch {
     pub fn decode(buf: &[u8], signature: u32) -> LogItemBatch
         ensures { λ r. ⌜ r ≡ readBatch (now (buf .entry)) signature ⌝ }
     {
-        match LogBatch::check_frame(buf, signature) {
+        match check_front(buf) {
             HeaderRead::Refused(number) => LogItemBatch::empty(number, 0),
             HeaderRead::Done { batch } => {
                 let offset = batch.offset;
-                let end = batch.len - LogBatch::CHECKSUM_LEN;
+                let len = batch.len;
                 let body = Span {
                     at: offset,
-                    len: batch.len - offset,
+                    len: len - offset,
                 };
                 let block = Span {
                     at: LogBatch::HEADER_LEN,
                     len: offset - LogBatch::HEADER_LEN,
                 };
-                LogItemBatch::fill(
-                    &buf[offset..end],
-                    Wanted::Exactly(seal::content_len(block.len)),
-                    body,
-                    block,
-                )
+                let mut t = LogItemBatch::decode(&buf[offset..len], signature);
+                if t.refusal.number != refusal::NONE {
+                    return t;
+                }
+                if t.total as usize != seal::content_len(block.len) {
+                    return LogItemBatch::empty(refusal::BLOCK_DIFFERS, 0);
+                }
+                t.body = body;
+                t.block = block;
+                t
             }
         }
     }
@@ -283,15 +278,26 @@ fn read_frame(first: u64, second: u64) -> HeaderRead
     }
 }
 
-// The block, then the body's checksum: 0, or 5 or 6.
-fn check_seals(buf: &[u8], offset: usize, len: usize, signature: u32) -> u32
-    requires { ⌜ (16 ≤ offset) × (offset ≤ len) × (len ≤ length (now buf)) ⌝ }
-    ensures { λ r. ⌜ r ≡ firstOf (blockCheck (take (offset - 16) (drop 16 (now (buf .entry))))) (sealCheck (take (len - offset) (drop offset (now (buf .entry)))) signature) ⌝ }
+// The frame of a batch whose header, length, compression type and block are right.
+fn check_front(buf: &[u8]) -> HeaderRead
+    ensures { λ r. ⌜ headerGot r ≡ frontBatch (now (buf .entry)) 0 ⌝ }
 {
-    let start = LogBatch::HEADER_LEN;
-    let broken = seal::check_block(&buf[start..offset]);
-    if broken != refusal::NONE {
-        return broken;
+    match LogBatch::decode_header(buf) {
+        HeaderRead::Refused(number) => HeaderRead::Refused(number),
+        HeaderRead::Done { batch } => {
+            let start = LogBatch::HEADER_LEN;
+            let offset = batch.offset;
+            if buf.len() < batch.len {
+                return HeaderRead::Refused(refusal::BATCH_SHORT);
+            }
+            if batch.compression != 0 {
+                return HeaderRead::Refused(refusal::COMPRESSED);
+            }
+            let broken = seal::check_block(&buf[start..offset]);
+            if broken != refusal::NONE {
+                return HeaderRead::Refused(broken);
+            }
+            HeaderRead::Done { batch }
+        }
     }
-    seal::check_seal(&buf[offset..len], signature)
 }

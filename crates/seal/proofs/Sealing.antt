@@ -1,6 +1,6 @@
--- What testing a seal and a block comes to: a law for each way out of the code; and two checks one after the other.
+-- What testing a seal and a block comes to: a law for each way out of the code.
 -- Assumes nothing.
-use Prim.Native.Nat.{ℕ, zero, suc, _+_, _-_, _≤_, _<_}
+use Prim.Native.Nat.{ℕ, _+_, _-_, _≤_, _<_}
 use mathlib.Core.Path.{_≡_, refl, sym, ap, _∙_}
 use mathlib.Core.Bool.{Bool, true, false, cond}
 use mathlib.Core.List.{List}
@@ -13,7 +13,6 @@ use lib.Seq.{take-all}
 use Rattle.codec.specs.Word.{readU32}
 use Rattle.codec.specs.declared.U32Read.the-variants.{Done, Eof}
 use Rattle.crc.specs.Crc.{crcOf}
-use Rattle.refusal.specs.First.{firstOf}
 use Rattle.seal.specs.Seal.{sealedPart, footer, sealCheck, blockCheck}
 
 module _ (b : List ℕ) (signature : ℕ) where
@@ -69,13 +68,3 @@ block-none b h = rw (eq-eqb _ _ h)
 pub block-some : (b : List ℕ) {r : ℕ} → (length b ≡ 0 → ⊥) → r ≡ sealCheck b 0 → r ≡ blockCheck b
 unfolding blockCheck
 block-some b h e = rw (ne-eqb _ _ h) e
-
--- ---- one check after the other
-
-pub first-fails : {n : ℕ} (m r : ℕ) → n ≡ m → (n ≡ 0 → ⊥) → n ≡ firstOf m r
-first-fails zero r e h = absurd (h e)
-first-fails (suc m) r e h = e
-
-pub first-passes : {n x : ℕ} (m r : ℕ) → n ≡ m → n ≡ 0 → x ≡ r → x ≡ firstOf m r
-first-passes zero r e h f = f
-first-passes (suc m) r e h f = absurd (omega arith)
