@@ -12,7 +12,7 @@ use Rattle.log_item.specs.declared.Form.the-variants.{Any}
 use Rattle.log_item.specs.declared.LogItem.{LogItem}
 use Rattle.log_item.specs.declared.EntryIndex.{EntryIndex}
 use Rattle.log_item.specs.declared.EntryIndexes.{EntryIndexes}
-use Rattle.item_batch.specs.Reading.{Answer, accepted, rejected, before, inFront, items}
+use Rattle.body_check.specs.Reading.{Answer, accepted, rejected, before, inFront, items}
 
 -- items and rows in front of what follows
 abbrev pub prepend : List LogItem → List EntryIndex → Answer → Answer

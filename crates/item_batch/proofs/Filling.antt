@@ -22,7 +22,7 @@ use Rattle.log_item.specs.declared.LogItem.{LogItem}
 use Rattle.log_item.specs.declared.EntryIndex.{EntryIndex}
 use Rattle.log_item.specs.declared.EntryIndexes.{EntryIndexes}
 use Rattle.log_item.proofs.Known.{tail-known, head-known, head-room}
-use Rattle.item_batch.specs.Reading.{accepted, rejected, items, count, readItems}
+use Rattle.body_check.specs.Reading.{accepted, rejected, items, count, readItems}
 use Rattle.log_item.specs.Blank.{blankItem, blankEntry}
 use Rattle.item_batch.proofs.Rows.{Rows, rows-none, rows-set, rows-take}
 use Rattle.item_batch.proofs.Coming.{prepend, behind, rowOf, rest, prepend-none, prepend-item, prepend-row, row-suc, bad-suc, rest-zero, item-suc, no-item}

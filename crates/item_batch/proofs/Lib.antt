@@ -1,5 +1,3 @@
-pub mod Sealing
-pub mod Checking
 pub mod Rows
 pub mod Coming
 pub mod Filling

@@ -1,10 +1,2 @@
-pub mod Limits
-pub mod Spelling
-pub mod Reading
-pub mod Seal
-pub mod Body
-pub mod Rows
-pub mod Plain
 pub mod Table
-pub mod Answers
 pub mod Writing

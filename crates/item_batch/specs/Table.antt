@@ -1,16 +1,12 @@
 -- The table that holds an answer: rows in order, the others blank. A refused reading is the empty table with its refusal.
 -- Assumes nothing.
 use Prim.Native.Nat.{ℕ, _-_}
-use mathlib.Core.Bool.{cond}
 use mathlib.Core.List.{List, _++_}
-use lib.Dec.{eqb}
 use lib.ListN.{length, replicate}
 use Rattle.log_item.specs.Blank.{blankItem, blankEntry}
 use Rattle.log_item.specs.declared.Span.{Span}
 use Rattle.item_batch.specs.declared.LogItemBatch.{LogItemBatch}
-use Rattle.item_batch.specs.declared.Wanted.{Wanted}
-use Rattle.item_batch.specs.declared.Wanted.the-variants.{Free, Exactly}
-use Rattle.item_batch.specs.Reading.{Answer, accepted, rejected}
+use Rattle.body_check.specs.Reading.{Answer, accepted, rejected}
 
 -- a table of n rows that begins with the list, the others blank
 abbrev pub pad : {A : Type 0} → A → ℕ → List A → List A
@@ -45,9 +41,3 @@ tableOf body block (accepted xs rows u q) =
       refusal = record { number = 0; item = 0 };
     }
 tableOf body block (rejected r i) = emptyTable r i
-
--- an answer whose entry total is not the one wanted is a 20
-abbrev pub agreeing : Wanted → Answer → Answer
-agreeing Free a = a
-agreeing (Exactly n) (accepted xs rows u q) = cond (eqb u n) (accepted xs rows u q) (rejected 20 0)
-agreeing (Exactly n) (rejected r i) = rejected r i

@@ -1,24 +1,18 @@
-// The items of a batch in a table: reading a body into it or without it, and writing it as a body. From log_batch.rs, LogItemBatch.
+// The items of a batch in a table: reading a body into it, and writing it as a body. From log_batch.rs, LogItemBatch.
 ghost use mathlib.Core.Path.{_≡_};
-ghost use Prim.Native.Nat.{_-_};
 ghost use lib.ListN.{length};
-ghost use Rattle.item_batch.specs.Reading.{items, readItems};
-ghost use Rattle.item_batch.specs.Seal.{sealCheck};
-ghost use Rattle.item_batch.specs.Body.{readBody};
+ghost use Rattle.body_check.specs.Reading.{readItems};
+ghost use Rattle.body_check.specs.Body.{readBody};
 ghost use Rattle.log_item.specs.Blank.{blankItem, blankEntry};
-ghost use Rattle.item_batch.specs.Table.{emptyTable, tableOf, agreeing};
-ghost use Rattle.item_batch.specs.Answers.{checkOf, plainBody};
+ghost use Rattle.item_batch.specs.Table.{emptyTable, tableOf};
 ghost use Rattle.item_batch.specs.Writing.{BodyWritten};
 ghost use mathlib.Core.Bool.{true, false};
 use codec::NumberRead;
-use codec::U32Read;
 use list_writer::Encoded;
 use log_item::EntryIndex;
 use log_item::EntryIndexes;
-use log_item::Field;
 use log_item::Form;
 use log_item::HeadRead;
-use log_item::ItemRead;
 use log_item::LogItem;
 use log_item::LogItemContent;
 use log_item::Span;
@@ -39,30 +33,6 @@ pub struct LogItemBatch {
     pub body: Span,
     pub block: Span,
     pub refusal: Refusal,
-}
-
-// The entry total that a reading must come to: any, or the length of the block's content.
-pub enum Wanted {
-    Free,
-    Exactly(usize),
-}
-
-// How much a body holds, with no table: numbers of items and entries, the entry total and the place after the last item; or its refusal.
-pub enum BodyCheck {
-    Accepted {
-        items: usize,
-        entries: usize,
-        total: u32,
-        next: usize,
-    },
-    Refused(Refusal),
-}
-
-// Whether each number of a body has its shortest spelling; a refused body has its refusal.
-pub enum PlainForm {
-    Yes,
-    No,
-    Refused(Refusal),
 }
 
 fn blank_item() -> LogItem
@@ -91,11 +61,7 @@ fn blank_entry() -> EntryIndex
 pub fn read_items(buf: &[u8]) -> LogItemBatch
     ensures { λ r. ⌜ r ≡ tableOf (record { at = 0; len = length (now (buf .entry)) }) (record { at = 0; len = 0 }) (readItems Form.Any (now (buf .entry))) ⌝ }
 {
-    let body = Span {
-        at: 0,
-        len: buf.len(),
-    };
-    LogItemBatch::fill(buf, Wanted::Free, body, Span { at: 0, len: 0 })
+    LogItemBatch::fill(buf, buf.len())
 }
 
 impl LogItemBatch {
@@ -122,22 +88,17 @@ impl LogItemBatch {
     pub fn decode(body: &[u8], signature: u32) -> LogItemBatch
         ensures { λ r. ⌜ r ≡ tableOf (record { at = 0; len = length (now (body .entry)) }) (record { at = 0; len = 0 }) (readBody (now (body .entry)) signature) ⌝ }
     {
-        let broken = check_seal(body, signature);
+        let broken = seal::check_seal(body, signature);
         if broken != refusal::NONE {
             return LogItemBatch::empty(broken, 0);
         }
-        let whole = Span {
-            at: 0,
-            len: body.len(),
-        };
         let n = body.len() - 4;
-        LogItemBatch::fill(&body[..n], Wanted::Free, whole, Span { at: 0, len: 0 })
+        LogItemBatch::fill(&body[..n], body.len())
     }
 
-    // The table of a body without its footer, where it comes to the entry total that is wanted (else 20), with the places of body and
-    // block that it is to state. The one loop that fills a table.
-    pub fn fill(buf: &[u8], wanted: Wanted, body: Span, block: Span) -> LogItemBatch
-        ensures { λ r. ⌜ r ≡ tableOf body block (agreeing wanted (readItems Form.Any (now (buf .entry)))) ⌝ }
+    // The table of a body without its footer; `len` is how long a body it states, from 0 on. The one loop that fills a table.
+    fn fill(buf: &[u8], len: usize) -> LogItemBatch
+        ensures { λ r. ⌜ r ≡ tableOf (record { at = 0; len = len }) (record { at = 0; len = 0 }) (readItems Form.Any (now (buf .entry))) ⌝ }
     {
         let NumberRead::Done { value, next: start } = codec::decode_var_u64(buf, 0) else {
             return LogItemBatch::empty(refusal::NUMBER_BROKEN, 0);
@@ -187,17 +148,12 @@ impl LogItemBatch {
                     }
                 }
             } else {
-                if let Wanted::Exactly(n) = wanted {
-                    if total as usize != n {
-                        return LogItemBatch::empty(refusal::BLOCK_DIFFERS, 0);
-                    }
-                }
+                let body = Span { at: 0, len };
                 t.item_count = i;
                 t.entry_count = j;
                 t.total = total;
                 t.next = at;
                 t.body = body;
-                t.block = block;
                 return t;
             }
         }
@@ -248,125 +204,5 @@ impl LogItemBatch {
             out,
             0,
         )
-    }
-}
-
-// Whether the last four bytes are the checksum of those before them XOR the signature: 0, or 5 or 6.
-pub fn check_seal(bytes: &[u8], signature: u32) -> u32
-    ensures { λ r. ⌜ r ≡ sealCheck (now (bytes .entry)) signature ⌝ }
-{
-    if bytes.len() <= 4 {
-        return refusal::NO_CONTENT;
-    }
-    let n = bytes.len() - 4;
-    match codec::decode_u32_le(bytes, n) {
-        U32Read::Done { value, next: _ } => {
-            if value == crc::crc32(&bytes[..n]) ^ signature {
-                refusal::NONE
-            } else {
-                refusal::CHECKSUM_WRONG
-            }
-        }
-        U32Read::Eof => refusal::NO_CONTENT,
-    }
-}
-
-// What a body without its footer holds, with no table.
-pub fn check_items(buf: &[u8]) -> BodyCheck
-    ensures { λ r. ⌜ r ≡ checkOf (readItems Form.Any (now (buf .entry))) ⌝ }
-{
-    check_form(buf, Form::Any)
-}
-
-// What a body with its footer holds, under a signature, with no table.
-pub fn check(body: &[u8], signature: u32) -> BodyCheck
-    ensures { λ r. ⌜ r ≡ checkOf (readBody (now (body .entry)) signature) ⌝ }
-{
-    let broken = check_seal(body, signature);
-    if broken != refusal::NONE {
-        return BodyCheck::Refused(Refusal {
-            number: broken,
-            item: 0,
-        });
-    }
-    let n = body.len() - 4;
-    check_form(&body[..n], Form::Any)
-}
-
-// Whether each number of a body has its shortest spelling.
-pub fn plain(body: &[u8], signature: u32) -> PlainForm
-    ensures { λ r. ⌜ r ≡ plainBody (now (body .entry)) signature ⌝ }
-{
-    match check(body, signature) {
-        BodyCheck::Refused(refusal) => PlainForm::Refused(refusal),
-        BodyCheck::Accepted {
-            items: _,
-            entries: _,
-            total: _,
-            next: _,
-        } => {
-            let n = body.len() - 4;
-            match check_form(&body[..n], Form::Plain) {
-                BodyCheck::Accepted {
-                    items: _,
-                    entries: _,
-                    total: _,
-                    next: _,
-                } => PlainForm::Yes,
-                BodyCheck::Refused(_) => PlainForm::No,
-            }
-        }
-    }
-}
-
-// What a body without its footer holds, where its numbers are asked for in a form.
-fn check_form(buf: &[u8], form: Form) -> BodyCheck
-    ensures { λ r. ⌜ r ≡ checkOf (readItems form (now (buf .entry))) ⌝ }
-{
-    match log_item::read_number(buf, 0, form) {
-        Field::Done { value, next } => {
-            if 256 < value {
-                return BodyCheck::Refused(Refusal {
-                    number: refusal::ITEMS_TOO_MANY,
-                    item: 0,
-                });
-            }
-            check_from(buf, next, value as usize, form)
-        }
-        Field::Refused(number) => BodyCheck::Refused(Refusal { number, item: 0 }),
-    }
-}
-
-// What `count` items from a place on hold, with nothing before them.
-fn check_from(buf: &[u8], start: usize, count: usize, form: Form) -> BodyCheck
-    ensures { λ r. ⌜ r ≡ checkOf (items form (now (buf .entry)) count 0 0 0 start) ⌝ }
-{
-    let mut i: usize = 0;
-    let mut at = start;
-    let mut total: u32 = 0;
-    let mut used: usize = 0;
-    while i < count {
-        match LogItem::decode_form(buf, at, total, used, form) {
-            ItemRead::Done {
-                item: _,
-                next,
-                total: after,
-                used: entries,
-            } => {
-                at = next;
-                total = after;
-                used = entries;
-                i += 1;
-            }
-            ItemRead::Refused(number) => {
-                return BodyCheck::Refused(Refusal { number, item: i });
-            }
-        }
-    }
-    BodyCheck::Accepted {
-        items: count,
-        entries: used,
-        total,
-        next: at,
     }
 }

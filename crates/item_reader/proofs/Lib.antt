@@ -5,7 +5,6 @@ pub mod RowLaws
 pub mod ItemLaws
 pub mod OpenLaws
 pub mod Opened
-pub mod Refusing
 pub mod Through
 pub mod Theorems
 pub mod Determined

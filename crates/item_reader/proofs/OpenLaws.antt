@@ -9,10 +9,10 @@ use Rattle.refusal.specs.declared.Refusal.{Refusal}
 use Rattle.log_item.specs.Got.{got, refused}
 use Rattle.log_item.specs.Reading.{number}
 use Rattle.log_item.specs.declared.Form.the-variants.{Any}
-use Rattle.item_batch.specs.declared.BodyCheck.the-variants.{Accepted, Refused}
-use Rattle.item_batch.specs.Reading.{Answer, accepted, rejected}
-use Rattle.item_batch.specs.Body.{readBody}
-use Rattle.item_batch.specs.Answers.{checkOf}
+use Rattle.body_check.specs.declared.BodyCheck.the-variants.{Accepted, Refused}
+use Rattle.body_check.specs.Reading.{Answer, accepted, rejected}
+use Rattle.body_check.specs.Body.{readBody}
+use Rattle.body_check.specs.Answers.{checkOf}
 use Rattle.item_reader.specs.declared.Opening.{Opening}
 use Rattle.item_reader.specs.Reader.{afterCount, openingBy, openingOf}
 

@@ -14,9 +14,9 @@ use Rattle.log_item.specs.declared.Form.the-variants.{Any}
 use Rattle.log_item.specs.declared.Span.{Span}
 use Rattle.log_item.specs.declared.LogItem.{LogItem}
 use Rattle.log_item.specs.declared.EntryIndex.{EntryIndex}
-use Rattle.item_batch.specs.Seal.{sealedPart, sealCheck}
-use Rattle.item_batch.specs.Reading.{accepted, rejected, counted, items, count, readItems}
-use Rattle.item_batch.specs.Body.{unless, readBody}
+use Rattle.seal.specs.Seal.{sealedPart, sealCheck}
+use Rattle.body_check.specs.Reading.{accepted, rejected, counted, items, count, readItems}
+use Rattle.body_check.specs.Body.{unless, readBody}
 use Rattle.item_batch.specs.Table.{tableOf}
 use Rattle.one_reading.proofs.Accepts.{of-accepted}
 use Rattle.one_reading.proofs.Listing.{sound-items}

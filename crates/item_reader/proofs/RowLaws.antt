@@ -7,7 +7,7 @@ use lib.ListN.{length, take}
 use Rattle.log_item.specs.Got.{got, refused}
 use Rattle.log_item.specs.Reading.{tail}
 use Rattle.log_item.specs.declared.Form.the-variants.{Any}
-use Rattle.item_batch.specs.Seal.{sealedPart}
+use Rattle.seal.specs.Seal.{sealedPart}
 use Rattle.item_reader.specs.declared.EntryRows.{EntryRows}
 use Rattle.item_reader.specs.declared.RowRead.{RowRead}
 use Rattle.item_reader.specs.declared.RowRead.the-variants as row

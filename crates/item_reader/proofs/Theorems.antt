@@ -10,9 +10,9 @@ use denote.Ref.{RefT, now}
 use Rattle.log_item.specs.declared.Span.{Span}
 use Rattle.log_item.specs.declared.LogItem.{LogItem}
 use Rattle.log_item.specs.declared.EntryIndex.{EntryIndex}
-use Rattle.item_batch.specs.Seal.{sealedPart}
-use Rattle.item_batch.specs.Reading.{accepted, rejected}
-use Rattle.item_batch.specs.Body.{readBody}
+use Rattle.seal.specs.Seal.{sealedPart}
+use Rattle.body_check.specs.Reading.{accepted, rejected}
+use Rattle.body_check.specs.Body.{readBody}
 use Rattle.log_item.specs.Blank.{blankItem}
 use Rattle.item_batch.specs.Table.{tableOf}
 use Rattle.item_reader.specs.declared.EntryRows.{EntryRows}
@@ -22,7 +22,7 @@ use Rattle.item_reader.specs.Reader.{before, afterCount, opened, afterCa
 use Rattle.item_reader.specs.Stepping.{StepsThrough}
 use Rattle.item_reader.specs.Stepping as go
 use Rattle.item_reader.proofs.Opened.{in-body, opening-good, opening-bad, in-table}
-use Rattle.item_reader.proofs.Refusing.{refusal-some}
+use Rattle.body_check.proofs.Refusing.{refusal-some}
 use Rattle.item_reader.proofs.Through as through
 
 module _ (body : RefT (List ℕ)) (signature : ℕ) where

@@ -13,8 +13,8 @@ use Rattle.log_item.specs.declared.Form.the-variants.{Any}
 use Rattle.log_item.specs.declared.LogItem.{LogItem}
 use Rattle.log_item.specs.declared.EntryIndex.{EntryIndex}
 use Rattle.log_item.proofs.Known.{head-known}
-use Rattle.item_batch.specs.Seal.{sealedPart}
-use Rattle.item_batch.specs.Reading.{Answer, accepted, rejected, before, inFront, items}
+use Rattle.seal.specs.Seal.{sealedPart}
+use Rattle.body_check.specs.Reading.{Answer, accepted, rejected, before, inFront, items}
 use Rattle.item_reader.specs.declared.EntryRows.{EntryRows}
 use Rattle.item_reader.specs.declared.ItemReader.{ItemReader}
 use Rattle.item_reader.specs.declared.Next.{Next}

@@ -7,9 +7,9 @@ use denote.Ref.{RefT, now}
 use Rattle.log_item.specs.Got.{Got, got, refused}
 use Rattle.log_item.specs.Reading.{number}
 use Rattle.log_item.specs.declared.Form.the-variants.{Any}
-use Rattle.item_batch.specs.Reading.{Answer, accepted, rejected}
-use Rattle.item_batch.specs.Seal.{sealedPart}
-use Rattle.item_batch.specs.Body.{readBody}
+use Rattle.body_check.specs.Reading.{Answer, accepted, rejected}
+use Rattle.seal.specs.Seal.{sealedPart}
+use Rattle.body_check.specs.Body.{readBody}
 use Rattle.item_reader.specs.declared.ItemReader.{ItemReader}
 use Rattle.item_reader.specs.declared.Next.{Next}
 use Rattle.item_reader.specs.declared.Opening.{Opening}

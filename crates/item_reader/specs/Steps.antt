@@ -12,7 +12,7 @@ use Rattle.log_item.specs.Reading.{head, tails}
 use Rattle.log_item.specs.declared.Form.the-variants.{Any}
 use Rattle.log_item.specs.declared.LogItem.{LogItem}
 use Rattle.log_item.specs.declared.EntryIndexes.{EntryIndexes}
-use Rattle.item_batch.specs.Seal.{sealedPart}
+use Rattle.seal.specs.Seal.{sealedPart}
 use Rattle.item_reader.specs.declared.EntryRows.{EntryRows}
 use Rattle.item_reader.specs.declared.Next.{Next}
 use Rattle.item_reader.specs.declared.Next.the-variants as next

@@ -6,11 +6,11 @@
 // itself, so those are few and thin, and the work is done on the slice and numbers.
 ghost use mathlib.Core.Path.{_≡_};
 ghost use Prim.Native.Nat.{_-_};
-ghost use Rattle.item_batch.specs.Seal.{sealedPart};
+ghost use Rattle.seal.specs.Seal.{sealedPart};
 ghost use Rattle.item_reader.specs.Rows.{rowAt};
 ghost use Rattle.item_reader.specs.Steps.{rowsFrom, foundGot, itemAt, stayed, stepOf};
 ghost use Rattle.item_reader.specs.Reader.{afterCount, openingOf, opened, stepFrom, after, nthOf};
-use item_batch::BodyCheck;
+use body_check::BodyCheck;
 use log_item::EntryIndex;
 use log_item::EntryIndexes;
 use log_item::Field;
@@ -179,7 +179,7 @@ fn before_footer(len: usize) -> usize
 fn open_body(body: &[u8], signature: u32) -> Opening
     ensures { λ r. ⌜ r ≡ openingOf (now (body .entry)) signature ⌝ }
 {
-    match item_batch::check(body, signature) {
+    match body_check::check(body, signature) {
         BodyCheck::Accepted {
             items,
             entries: _,

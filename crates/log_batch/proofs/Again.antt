@@ -21,12 +21,13 @@ use Rattle.crc.proofs.Laws.{crc-lt}
 use Rattle.log_item.specs.Got.{got}
 use Rattle.log_item.specs.declared.LogItem.{LogItem}
 use Rattle.list_writer.specs.Bytes.{itemsBytes, listBytes, footed, bodyBytes}
-use Rattle.item_batch.specs.Seal.{sealCheck}
+use Rattle.seal.specs.Seal.{sealCheck, blockCheck, contentLength}
 use Rattle.one_reading.proofs.Bodies.{sealed-of}
 use Rattle.log_batch.specs.Header.{frame, header}
-use Rattle.log_batch.specs.Batch.{blockOf, bodyOf, blockCheck, contentLength, sealedBatch}
+use Rattle.log_batch.specs.Batch.{blockOf, bodyOf, sealedBatch}
 use Rattle.log_batch.specs.Written.{blockBytes, headerBytes, frontBytes, framed, frameOf}
-use Rattle.log_batch.proofs.Frames.{frame-good, block-none, block-some, first-passes, batch-good}
+use Rattle.seal.proofs.Sealing.{block-none, block-some}
+use Rattle.log_batch.proofs.Frames.{frame-good, front-good, batch-good}
 use Rattle.log_batch.proofs.Planning.{filled-block, block-empty, block-filled, header-length, front-length}
 
 -- Bytes and their checksum XOR a signature are a right seal.
@@ -135,4 +136,5 @@ module _ (content body t : List ℕ) where
     sealed-again signature bytes right =
         let block = ap blockCheck block-again ∙ block-good content bytes in
         let sealed = ap (λ (l : List ℕ). sealCheck l signature) body-again ∙ right in
-        sym (batch-good (framed content body ++ t) signature header-again whole-length refl (first-passes _ _ (sym block) refl (sym sealed)) refl)
+        let front = front-good (framed content body ++ t) header-again whole-length refl (sym block) refl in
+        sym (batch-good (framed content body ++ t) signature (sym front) (sym sealed) refl)

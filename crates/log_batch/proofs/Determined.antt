@@ -3,9 +3,6 @@
 use mathlib.Core.Path.{_≡_, sym, _∙_}
 use denote.Ref.{now}
 use Rattle.one_answer.specs.OneAnswer.{OneAnswer}
-use Rattle.log_item.specs.declared.Span.{Span}
-use Rattle.item_batch.specs.declared.BodyCheck.{BodyCheck}
-use Rattle.log_batch.specs.declared.BatchCheck.{BatchCheck}
 use Rattle.log_batch.specs.Header.{headerGot}
 use Rattle.log_batch.specs.declared.HeaderRead.{HeaderRead}
 use Rattle.log_batch.specs.declared.HeaderRead.the-variants as read
@@ -15,22 +12,14 @@ use Rattle.log_batch.proofs.LogBatch.decode_header.Kinds as decode-head
 use Rattle.log_batch.proofs.LogBatch.decode_header.Reads as decode-header-reads
 use Rattle.log_batch.proofs.LogBatch.decode.Kinds as decode-kinds
 use Rattle.log_batch.proofs.LogBatch.decode.Reads as decode-reads
+use Rattle.log_batch.proofs.LogBatch.check_frame.Kinds as check-frame-kinds
+use Rattle.log_batch.proofs.LogBatch.check_frame.Reads as check-frame-reads
+use Rattle.log_batch.proofs.LogBatch.begin.Kinds as begin-kinds
+use Rattle.log_batch.proofs.LogBatch.begin.Reads as begin-reads
 use Rattle.log_batch.proofs.LogBatch.encode.Kinds as encode-kinds
 use Rattle.log_batch.proofs.LogBatch.encode.Reads as encode-reads
 use Rattle.log_batch.proofs.LogBatch.encode_unchecked.Kinds as encode-unchecked-kinds
 use Rattle.log_batch.proofs.LogBatch.encode_unchecked.Reads as encode-unchecked-reads
-use Rattle.log_batch.proofs.check_block.Kinds as check-block-kinds
-use Rattle.log_batch.proofs.check_block.Reads as check-block-reads
-use Rattle.log_batch.proofs.rows.read_rows.Kinds as read-rows-kinds
-use Rattle.log_batch.proofs.rows.read_rows.Reads as read-rows-reads
-use Rattle.log_batch.proofs.rows.write_rows.Kinds as write-rows-kinds
-use Rattle.log_batch.proofs.rows.write_rows.Reads as write-rows-reads
-use Rattle.log_batch.proofs.view.check_entry.Kinds as check-entry-kinds
-use Rattle.log_batch.proofs.view.check_entry.Reads as check-entry-reads
-use Rattle.log_batch.proofs.view.entry_view.Kinds as entry-view-kinds
-use Rattle.log_batch.proofs.view.entry_view.Reads as entry-view-reads
-use Rattle.log_batch.proofs.AtomicGroupStatus.parse.Kinds as parse-kinds
-use Rattle.log_batch.proofs.AtomicGroupStatus.parse.Reads as parse-reads
 
 -- An answer says in the words of the definitions all that it says.
 header-same : (a b : HeaderRead) → headerGot a ≡ headerGot b → a ≡ b
@@ -48,43 +37,14 @@ decode-header κs a x y s t p q = header-same x y (p ∙ sym q)
 pub decode : OneAnswer 1 decode-kinds.ps decode-kinds.r decode-reads.Post (λ κs x y s t. x ≡ y)
 decode κs a x y s t p q = p ∙ sym q
 
+pub check-frame : OneAnswer 1 check-frame-kinds.ps check-frame-kinds.r check-frame-reads.Post (λ κs x y s t. x ≡ y)
+check-frame κs a x y s t p q = header-same x y (p ∙ sym q)
+
+pub begin : OneAnswer 2 begin-kinds.ps begin-kinds.r begin-reads.Post (λ κs x y s t. (x ≡ y) × (now (s .1 .1 .1 .0) ≡ now (t .1 .1 .1 .0)))
+begin κs a x y s t p q = let e : x ≡ y = p .answer ∙ sym (q .answer) in (e, p .front ∙ (rw e (sym (q .front))))
+
 pub encode : OneAnswer 3 encode-kinds.ps encode-kinds.r encode-reads.Post (λ κs x y s t. (x ≡ y) × (now (s .1 .1 .1 .1 .0) ≡ now (t .1 .1 .1 .1 .0)))
 encode κs a x y s t p q = let e : x ≡ y = p .answer ∙ sym (q .answer) in (e, p .written ∙ (rw e (sym (q .written))))
 
 pub encode-unchecked : OneAnswer 3 encode-unchecked-kinds.ps encode-unchecked-kinds.r encode-unchecked-reads.Post (λ κs x y s t. (x ≡ y) × (now (s .1 .1 .1 .1 .0) ≡ now (t .1 .1 .1 .1 .0)))
 encode-unchecked κs a x y s t p q = let e : x ≡ y = p .answer ∙ sym (q .answer) in (e, p .written ∙ (rw e (sym (q .written))))
-
--- Three fields that are the same make the same answer.
-abbrev made : BodyCheck → Span → Span → BatchCheck
-made check body block = record { check = check; body = body; block = block }
-
-same-made : {a b : BodyCheck} {c d e f : Span} → a ≡ b → c ≡ d → e ≡ f → made a c e ≡ made b d f
-same-made p q r = cc
-
-same-check : {x y : BatchCheck} → x .check ≡ y .check → x .body ≡ y .body → x .block ≡ y .block → x ≡ y
-same-check p q r = same-made p q r
-
-pub read-rows : OneAnswer 3 read-rows-kinds.ps read-rows-kinds.r read-rows-reads.Post
-    (λ κs x y s t. (x ≡ y) × (now (s .1 .1 .0) ≡ now (t .1 .1 .0)) × (now (s .1 .1 .1 .0) ≡ now (t .1 .1 .1 .0)))
-read-rows κs a x y s t p q =
-    let e : x .check ≡ y .check = p .rows .answer ∙ sym (q .rows .answer) in (
-      same-check e (p .body ∙ (rw e (sym (q .body)))) (p .block ∙ (rw e (sym (q .block)))),
-      p .rows .item-rows ∙ sym (q .rows .item-rows),
-      p .rows .entry-rows ∙ sym (q .rows .entry-rows),
-    )
-
-pub write-rows : OneAnswer 5 write-rows-kinds.ps write-rows-kinds.r write-rows-reads.Post
-    (λ κs x y s t. (x ≡ y) × (now (s .1 .1 .1 .1 .1 .1 .0) ≡ now (t .1 .1 .1 .1 .1 .1 .0)))
-write-rows κs a x y s t p q = let e : x ≡ y = p .answer ∙ sym (q .answer) in (e, p .written ∙ (rw e (sym (q .written))))
-
-pub check-block : OneAnswer 1 check-block-kinds.ps check-block-kinds.r check-block-reads.Post (λ κs x y s t. x ≡ y)
-check-block κs a x y s t p q = p ∙ sym q
-
-pub check-entry : OneAnswer 1 check-entry-kinds.ps check-entry-kinds.r check-entry-reads.Post (λ κs x y s t. x ≡ y)
-check-entry κs a x y s t p q = p ∙ sym q
-
-pub entry-view : OneAnswer 2 entry-view-kinds.ps entry-view-kinds.r entry-view-reads.Post (λ κs x y s t. (now x ≡ now y) × (now (s .1 .1 .1 .0) ≡ now (t .1 .1 .1 .0)))
-entry-view κs a x y s t p q = (p .1 ∙ sym (q .1), p .0 ∙ sym (q .0))
-
-pub parse : OneAnswer 1 parse-kinds.ps parse-kinds.r parse-reads.Post (λ κs x y s t. x ≡ y)
-parse κs a x y s t p q = p ∙ sym q

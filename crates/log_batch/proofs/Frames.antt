@@ -1,7 +1,7 @@
 -- What reading a header, the seals of a batch and the whole come to: a law for each way out of the code.
 -- Assumes nothing.
 use Prim.Native.Nat.{ℕ, zero, suc, _+_, _-_, _/_, _%_, _≤_, _<_}
-use mathlib.Core.Path.{_≡_, refl, ap, ap₂, _∙_}
+use mathlib.Core.Path.{_≡_, refl, sym, ap, ap₂, _∙_}
 use mathlib.Core.List.{List}
 use native.Mathlib.Omega.{arith}
 use borrow.Author.Tests.{le-leb, lt-leb, eq-eqb, ne-eqb}
@@ -12,17 +12,21 @@ use Rattle.codec.specs.declared.U64Read.the-variants.{Done, Eof}
 use Rattle.codec.proofs.Words.{u64-known, u64-ended}
 use Rattle.log_item.specs.Got.{got, refused, done, _>>_}
 use Rattle.log_item.specs.declared.Form.the-variants.{Any}
+use Rattle.log_item.specs.declared.Span.{Span}
 use Rattle.log_item.proofs.Holds.{Holds, holds, after, at-most, equal, of-got}
 use Rattle.item_batch.specs.declared.LogItemBatch.{LogItemBatch}
-use Rattle.item_batch.specs.declared.Wanted.the-variants.{Exactly}
-use Rattle.item_batch.specs.Reading.{readItems}
-use Rattle.item_batch.specs.Seal.{sealedPart, sealCheck}
-use Rattle.item_batch.specs.Table.{emptyTable, tableOf, agreeing}
-use Rattle.item_batch.proofs.Sealing.{seal-long}
+use Rattle.body_check.specs.declared.Wanted.the-variants.{Exactly}
+use Rattle.body_check.specs.Reading.{Answer, accepted, rejected, readItems}
+use Rattle.body_check.specs.Body.{readBody}
+use Rattle.body_check.proofs.Bodies.{body-refused, body-sealed}
+use Rattle.body_check.proofs.Refusing.{refusal-some}
+use Rattle.seal.specs.Seal.{sealedPart, sealCheck, blockCheck, contentLength}
+use Rattle.body_check.specs.Total.{agreeing}
+use Rattle.item_batch.specs.Table.{emptyTable, tableOf}
+use Rattle.seal.proofs.Sealing.{seal-long}
 use Rattle.log_batch.specs.declared.LogBatch.{LogBatch}
 use Rattle.log_batch.specs.Header.{frame, header}
-use Rattle.log_batch.specs.Batch.{blockOf, bodyOf, blockCheck, contentLength, passes, sealedBatch, readBatch}
-use Rattle.refusal.specs.First.{firstOf}
+use Rattle.log_batch.specs.Batch.{blockOf, bodyOf, passes, frontBatch, sealedBatch, readBatch}
 
 -- ---- the two words
 
@@ -87,62 +91,72 @@ module _ (s : List ℕ) where
 
 -- ---- one check after the other
 
-pub first-fails : {n : ℕ} (m r : ℕ) → n ≡ m → (n ≡ 0 → ⊥) → n ≡ firstOf m r
-first-fails zero r e h = absurd (h e)
-first-fails (suc m) r e h = e
+-- a check that answers a number, and what is read where it passes
+fails : {A : Type 0} (x : A) (q b : ℕ) {n : ℕ} → n ≡ b → (n ≡ 0 → ⊥) → refused n ≡ (_>>_ (passes b) (done x)) q
+fails x q b {n} e h = let f : b ≡ 0 → ⊥ = λ z. h (e ∙ z) in rw (ne-eqb b 0 f) (ap refused e)
 
-pub first-passes : {n x : ℕ} (m r : ℕ) → n ≡ m → n ≡ 0 → x ≡ r → x ≡ firstOf m r
-first-passes zero r e h f = f
-first-passes (suc m) r e h f = absurd (omega arith)
+passed : {A : Type 0} (x : A) (q b : ℕ) {n : ℕ} → n ≡ b → n ≡ 0 → got x q ≡ (_>>_ (passes b) (done x)) q
+passed x q b e h = let f : b ≡ 0 = sym e ∙ h in rw (eq-eqb b 0 f)
 
-pub block-none : (b : List ℕ) → length b ≡ 0 → 0 ≡ blockCheck b
-unfolding blockCheck
-block-none b h = rw (eq-eqb _ _ h)
+-- ---- the batch up to its block
 
-pub block-some : (b : List ℕ) {r : ℕ} → (length b ≡ 0 → ⊥) → r ≡ sealCheck b 0 → r ≡ blockCheck b
-unfolding blockCheck
-block-some b h e = rw (ne-eqb _ _ h) e
+module _ (s : List ℕ) where
+  pub front-refused : {r : ℕ} → header s 0 ≡ refused r → refused r ≡ frontBatch s 0
+  unfolding frontBatch
+  front-refused e = rw e
 
-some : (m : ℕ) → suc m ≡ 0 → ⊥
-some m e = omega arith
+  module _ {h : LogBatch} {q : ℕ} (e : header s 0 ≡ got h q) where
+    pub front-short : length s < h .len → refused 18 ≡ frontBatch s 0
+    unfolding frontBatch
+    front-short k = rw (e, lt-leb _ _ k)
 
-two-broken : {A : Type 0} (x : A) (q b c : ℕ) {n : ℕ} → n ≡ firstOf b c → (n ≡ 0 → ⊥) → refused n ≡ (_>>_ (passes b) (_>>_ (passes c) (done x))) q
-two-broken x q zero zero e h = absurd (h e)
-two-broken x q zero (suc c) e h = rw (ne-eqb (suc c) 0 (some c)) (ap refused e)
-two-broken x q (suc b) c e h = rw (ne-eqb (suc b) 0 (some b)) (ap refused e)
+    module _ (there : h .len ≤ length s) where
+      pub front-compressed : (h .compression ≡ 0 → ⊥) → refused 19 ≡ frontBatch s 0
+      unfolding frontBatch
+      front-compressed k = rw (e, le-leb _ _ there, ne-eqb _ _ k)
 
-two-good : {A : Type 0} (x : A) (q b c : ℕ) {n : ℕ} → n ≡ firstOf b c → n ≡ 0 → got x q ≡ (_>>_ (passes b) (_>>_ (passes c) (done x))) q
-two-good x q zero zero e h = refl
-two-good x q zero (suc c) e h = absurd (omega arith)
-two-good x q (suc b) c e h = absurd (omega arith)
+      module _ (none : h .compression ≡ 0) {n : ℕ} (checked : n ≡ blockCheck (blockOf h s)) where
+        pub front-broken : (n ≡ 0 → ⊥) → refused n ≡ frontBatch s 0
+        unfolding frontBatch
+        front-broken k = rw (e, le-leb _ _ there, eq-eqb _ _ none) (fails h q (blockCheck (blockOf h s)) checked k)
+
+        pub front-good : n ≡ 0 → got h q ≡ frontBatch s 0
+        unfolding frontBatch
+        front-good k = rw (e, le-leb _ _ there, eq-eqb _ _ none) (passed h q (blockCheck (blockOf h s)) checked k)
+
+  -- Its body starts after the header and lies in the bytes.
+  pub record Front (h : LogBatch) : Type 0 where
+    pub start : 16 ≤ h .offset
+    pub inside : h .offset ≤ h .len
+    pub there : h .len ≤ length s
+
+  front-holds : (p : ℕ) → Holds (λ h q. Front h) (frontBatch s p)
+  unfolding frontBatch
+  front-holds p =
+      after (header-holds s p) λ h q k.
+      at-most (h .len) (length s) 18 _ q λ there.
+      equal (h .compression) 0 19 _ q λ none.
+      equal (blockCheck (blockOf h s)) 0 (blockCheck (blockOf h s)) _ q λ block.
+      holds (record { start = k .0; inside = k .1; there = there })
+
+  pub front-known : {h : LogBatch} {q : ℕ} → frontBatch s 0 ≡ got h q → Front h
+  front-known e = of-got (front-holds 0) e
 
 -- ---- the batch up to the checksum of its body
 
 module _ (s : List ℕ) (signature : ℕ) where
-  pub batch-refused : {r : ℕ} → header s 0 ≡ refused r → refused r ≡ sealedBatch s signature 0
+  pub batch-refused : {r : ℕ} → frontBatch s 0 ≡ refused r → refused r ≡ sealedBatch s signature 0
   unfolding sealedBatch
   batch-refused e = rw e
 
-  module _ {h : LogBatch} {q : ℕ} (e : header s 0 ≡ got h q) where
-    pub batch-short : length s < h .len → refused 18 ≡ sealedBatch s signature 0
+  module _ {h : LogBatch} {q : ℕ} (e : frontBatch s 0 ≡ got h q) {n : ℕ} (sealed : n ≡ sealCheck (bodyOf h s) signature) where
+    pub batch-broken : (n ≡ 0 → ⊥) → refused n ≡ sealedBatch s signature 0
     unfolding sealedBatch
-    batch-short k = rw (e, lt-leb _ _ k)
+    batch-broken k = rw e (fails h q (sealCheck (bodyOf h s) signature) sealed k)
 
-    module _ (there : h .len ≤ length s) where
-      pub batch-compressed : (h .compression ≡ 0 → ⊥) → refused 19 ≡ sealedBatch s signature 0
-      unfolding sealedBatch
-      batch-compressed k = rw (e, le-leb _ _ there, ne-eqb _ _ k)
-
-      module _ (none : h .compression ≡ 0) {n : ℕ} (sealed : n ≡ firstOf (blockCheck (blockOf h s)) (sealCheck (bodyOf h s) signature)) where
-        pub batch-broken : (n ≡ 0 → ⊥) → refused n ≡ sealedBatch s signature 0
-        unfolding sealedBatch
-        batch-broken k =
-            rw (e, le-leb _ _ there, eq-eqb _ _ none) (two-broken h q (blockCheck (blockOf h s)) (sealCheck (bodyOf h s) signature) sealed k)
-
-        pub batch-good : n ≡ 0 → got h q ≡ sealedBatch s signature 0
-        unfolding sealedBatch
-        batch-good k =
-            rw (e, le-leb _ _ there, eq-eqb _ _ none) (two-good h q (blockCheck (blockOf h s)) (sealCheck (bodyOf h s) signature) sealed k)
+    pub batch-good : n ≡ 0 → got h q ≡ sealedBatch s signature 0
+    unfolding sealedBatch
+    batch-good k = rw e (passed h q (sealCheck (bodyOf h s) signature) sealed k)
 
   -- The body of a good batch has more than its footer, lies in the bytes, and its seal is right.
   pub record Framed (h : LogBatch) : Type 0 where
@@ -154,27 +168,20 @@ module _ (s : List ℕ) (signature : ℕ) where
   sealed-holds : (p : ℕ) → Holds (λ h q. Framed h) (sealedBatch s signature p)
   unfolding sealedBatch
   sealed-holds p =
-      after (header-holds s p) λ h q k.
-      at-most (h .len) (length s) 18 _ q λ there.
-      equal (h .compression) 0 19 _ q λ none.
-      equal (blockCheck (blockOf h s)) 0 (blockCheck (blockOf h s)) _ q λ block.
+      after (front-holds s p) λ h q k.
       equal (sealCheck (bodyOf h s) signature) 0 (sealCheck (bodyOf h s) signature) _ q λ body.
       let long : 4 < length (bodyOf h s) = seal-long (bodyOf h s) signature body in
       holds (record {
-        start = k .0;
+        start = k .start;
         long = omega (arith, length-take (h .len - h .offset) (drop (h .offset) s), length-drop (h .offset) s);
-        there = there;
+        there = k .there;
         sealed = body;
       })
 
   pub batch-known : {h : LogBatch} {q : ℕ} → sealedBatch s signature 0 ≡ got h q → Framed h
   batch-known e = of-got (sealed-holds 0) e
 
-  -- ---- the table
-
-  pub table-refused : {r : ℕ} {t : LogItemBatch} → sealedBatch s signature 0 ≡ refused r → t ≡ emptyTable r 0 → t ≡ readBatch s signature
-  unfolding readBatch
-  table-refused e f = rw e f
+  -- ---- what is read of its body
 
   module _ {h : LogBatch} {q : ℕ} (e : sealedBatch s signature 0 ≡ got h q) where
     body-part : take (h .len - 4 - h .offset) (drop (h .offset) s) ≡ sealedPart (bodyOf h s)
@@ -196,10 +203,82 @@ module _ (s : List ℕ) (signature : ℕ) where
         omega (arith, g .start, g .long, g .there, length-take (h .offset - 16) (drop 16 s), length-drop 16 s) in
         ap₂ (λ (m : ℕ) (l : List ℕ). agreeing (Exactly m) (readItems Any l)) (k ∙ size) body-part
 
-    pub table-read : {t : LogItemBatch} {n : ℕ} → n ≡ h .offset - 16 - 4
-        → t ≡ tableOf (record { at = h .offset; len = h .len - h .offset }) (record { at = 16; len = h .offset - 16 })
-        (agreeing (Exactly n) (readItems Any (take (h .len - 4 - h .offset) (drop (h .offset) s))))
-        → t ≡ readBatch s signature
-    unfolding readBatch
-    table-read k f =
-        rw e (f ∙ ap (tableOf (record { at = h .offset; len = h .len - h .offset }) (record { at = 16; len = h .offset - 16 })) (batch-part k))
+-- ---- the table
+
+pub table-refused : (s : List ℕ) (signature : ℕ) {r : ℕ} {t : LogItemBatch} → frontBatch s 0 ≡ refused r → t ≡ emptyTable r 0 → t ≡ readBatch s signature
+unfolding readBatch
+table-refused s signature e f = rw (sym (batch-refused s signature e)) f
+
+-- Where the front is right, the table is that of the body's reading, whose entry total is held to the block.
+table-of : (s : List ℕ) (signature : ℕ) {h : LogBatch} {q : ℕ} → frontBatch s 0 ≡ got h q
+    → readBatch s signature ≡ tableOf (record { at = h .offset; len = h .len - h .offset }) (record { at = 16; len = h .offset - 16 })
+    (agreeing (Exactly (h .offset - 16 - 4)) (readBody (bodyOf h s) signature))
+unfolding readBatch tableOf
+table-of s signature {h} {q} e = go (sealCheck (bodyOf h s) signature) refl
+  where
+    size : contentLength (blockOf h s) ≡ h .offset - 16 - 4
+    size = let g = front-known s e in omega (arith, g .start, g .inside, g .there, length-take (h .offset - 16) (drop 16 s), length-drop 16 s)
+
+    go : (n : ℕ) → n ≡ sealCheck (bodyOf h s) signature
+        → readBatch s signature ≡ tableOf (record { at = h .offset; len = h .len - h .offset }) (record { at = 16; len = h .offset - 16 })
+        (agreeing (Exactly (h .offset - 16 - 4)) (readBody (bodyOf h s) signature))
+    go zero k = rw (sym (batch-good s signature e k refl), body-sealed (bodyOf h s) signature k refl, size)
+    go (suc n) k =
+        let some : suc n ≡ 0 → ⊥ = λ z. omega arith in
+        rw (sym (batch-broken s signature e k some), body-refused (bodyOf h s) signature k some)
+
+-- a table with other places
+abbrev pub placed : Span → Span → LogItemBatch → LogItemBatch
+placed body block t =
+    record {
+      items = t .items;
+      «item_count» = t .«item_count»;
+      entries = t .entries;
+      «entry_count» = t .«entry_count»;
+      total = t .total;
+      next = t .next;
+      body = body;
+      block = block;
+      refusal = t .refusal;
+    }
+
+module _ (body block : Span) (n : ℕ) where
+  -- A refusal stays as it is.
+  held-refused : (k l : Span) (a : Answer) {t : LogItemBatch} → t ≡ tableOf k l a → (t .refusal .number ≡ 0 → ⊥) → t ≡ tableOf body block (agreeing (Exactly n) a)
+  unfolding tableOf
+  held-refused k l (accepted xs rows u q) e h = absurd (h (ap (λ (x : LogItemBatch). x .refusal .number) e))
+  held-refused k l (rejected r i) e h = e
+
+  -- Another total is a 20.
+  held-other : (k l : Span) (a : Answer) {t x : LogItemBatch} → t ≡ tableOf k l a → ((r i : ℕ) → a ≡ rejected r i → r ≡ 0 → ⊥)
+      → t .refusal .number ≡ 0 → (t .total ≡ n → ⊥) → x ≡ emptyTable 20 0 → x ≡ tableOf body block (agreeing (Exactly n) a)
+  unfolding tableOf
+  held-other k l (accepted xs rows u q) e some none other f =
+      let o : u ≡ n → ⊥ = λ z. other (ap (λ (y : LogItemBatch). y .total) e ∙ z) in
+      rw (ne-eqb u n o) f
+  held-other k l (rejected r i) e some none other f = absurd (some r i refl (sym (ap (λ (y : LogItemBatch). y .refusal .number) e) ∙ none))
+
+  -- The total that is wanted: the places are stated.
+  held-same : (k l : Span) (a : Answer) {t : LogItemBatch} → t ≡ tableOf k l a → ((r i : ℕ) → a ≡ rejected r i → r ≡ 0 → ⊥)
+      → t .refusal .number ≡ 0 → t .total ≡ n → placed body block t ≡ tableOf body block (agreeing (Exactly n) a)
+  unfolding tableOf
+  held-same k l (accepted xs rows u q) e some none same =
+      let o : u ≡ n = sym (ap (λ (y : LogItemBatch). y .total) e) ∙ same in
+      rw (eq-eqb u n o) (ap (placed body block) e)
+  held-same k l (rejected r i) e some none same = absurd (some r i refl (sym (ap (λ (y : LogItemBatch). y .refusal .number) e) ∙ none))
+
+module _ (s : List ℕ) (signature : ℕ) {h : LogBatch} {q : ℕ} (e : frontBatch s 0 ≡ got h q) (k l : Span) {t : LogItemBatch}
+    (read : t ≡ tableOf k l (readBody (bodyOf h s) signature)) where
+  pub table-stays : (t .refusal .number ≡ 0 → ⊥) → t ≡ readBatch s signature
+  table-stays some = held-refused _ _ _ k l (readBody (bodyOf h s) signature) read some ∙ sym (table-of s signature e)
+
+  module _ (none : t .refusal .number ≡ 0) {n : ℕ} (size : n ≡ h .offset - 16 - 4) where
+    pub table-differs : {x : LogItemBatch} → (t .total ≡ n → ⊥) → x ≡ emptyTable 20 0 → x ≡ readBatch s signature
+    table-differs other f =
+        let o : t .total ≡ h .offset - 16 - 4 → ⊥ = λ z. other (z ∙ sym size) in
+        held-other _ _ _ k l (readBody (bodyOf h s) signature) read (λ r i. refusal-some (bodyOf h s) signature) none o f ∙ sym (table-of s signature e)
+
+    pub table-placed : t .total ≡ n
+        → placed (record { at = h .offset; len = h .len - h .offset }) (record { at = 16; len = h .offset - 16 }) t ≡ readBatch s signature
+    table-placed same =
+        held-same _ _ _ k l (readBody (bodyOf h s) signature) read (λ r i. refusal-some (bodyOf h s) signature) none (same ∙ size) ∙ sym (table-of s signature e)

@@ -1,13 +1,13 @@
 -- Writing a whole batch: header and block one after the other, the body behind them, and what the contract then tells.
 -- Assumes nothing.
-use Prim.Native.Nat.{ℕ, _+_, _*_, _^_, _≤_, _<_}
+use Prim.Native.Nat.{ℕ, _+_, _-_, _*_, _^_, _≤_, _<_}
 use mathlib.Core.Path.{_≡_, refl, sym, ap, ap₂, _∙_}
 use mathlib.Core.Bool.{Bool}
 use mathlib.Core.List.{List, _++_}
 use native.Mathlib.Omega.{arith}
 use lib.ListN.{length, take, drop, length-append}
 use lib.Seq.{sets-eq}
-use borrow.Author.Tests.{eq-eqb, ne-eqb, le-leb}
+use borrow.Author.Tests.{eq-eqb, ne-eqb, le-leb, lt-leb}
 use Rattle.codec.specs.Word.{bigEndianBytes, littleEndianBytes}
 use Rattle.codec.specs.Write.{wroteAt, placed}
 use Rattle.codec.specs.declared.Wrote.{Wrote}
@@ -21,7 +21,7 @@ use Rattle.list_writer.specs.declared.Encoded.{Encoded}
 use Rattle.list_writer.specs.Bytes.{bodyBytes}
 use Rattle.list_writer.specs.Answers.{measureOf, encoded, encodedOf, laid}
 use Rattle.list_writer.proofs.Bodies.{accepted, body-length}
-use Rattle.log_batch.specs.Written.{blockBytes, headerBytes, frontBytes, framed, batchEncoded, BatchWritten}
+use Rattle.log_batch.specs.Written.{blockBytes, headerBytes, frontBytes, framed, batchEncoded, frontEncoded, FrontWritten, BatchWritten}
 use Rattle.log_batch.proofs.Planning.{empty-block, filled-block, block-empty, block-filled, block-small, front-length, body-small, planned}
 
 -- ---- header and block
@@ -47,13 +47,16 @@ module _ (content out : List ℕ) (len : ℕ) (room : Room out 0 (frontBytes len
   unfolding frontBytes
   with-block w = stored-same (ap (λ (n : ℕ). headerBytes len n ++ blockBytes content) (sym there)) (stored-then header-stored w)
 
-  pub front-empty : length content ≡ 0 → Stored out 0 (frontBytes len content) offset b
+  at-start : {later : List ℕ} → Stored out 0 (frontBytes len content) offset later → later ≡ placed out 0 (frontBytes len content)
+  at-start w = w .stored ∙ sets-eq (frontBytes len content) out 0 (room .fits) ∙ (rw (le-leb (0 + length (frontBytes len content)) (length out) (room .fits)))
+
+  pub front-empty : length content ≡ 0 → b ≡ placed out 0 (frontBytes len content)
   front-empty h =
-      with-block (stored-same (empty-block content h) (record { after = there ∙ sym (block-empty content h); stored = refl }))
+      at-start (with-block (stored-same (empty-block content h) (record { after = there ∙ sym (block-empty content h); stored = refl })))
 
   pub front-filled : (length content ≡ 0 → ⊥) → {d later : List ℕ} {u v : Wrote} {c : ℕ} → (u ≡ wroteAt b 16 content) × (d ≡ placed b 16 content) → c ≡ crcOf content
       → (v ≡ wroteAt d (16 + length content) (littleEndianBytes 4 c)) × (later ≡ placed d (16 + length content) (littleEndianBytes 4 c))
-      → Stored out 0 (frontBytes len content) offset later
+      → later ≡ placed out 0 (frontBytes len content)
   front-filled h {d} {later} {u} {v} {c} third k fourth =
       let n = block-filled content h in
       let l = stored-length header-stored in
@@ -61,35 +64,88 @@ module _ (content out : List ℕ) (len : ℕ) (room : Room out 0 (frontBytes len
       let two : Stored d (16 + length content) (littleEndianBytes 4 c) offset later =
       stores (omega (arith, enough, n, l, stored-length one, length-little 4 c)) fourth (omega (arith, n, there, length-little 4 c)) in
       let whole : blockBytes content ≡ content ++ littleEndianBytes 4 c = rw k (filled-block content h) in
-      with-block (stored-same whole (stored-then one two))
+      at-start (with-block (stored-same whole (stored-then one two)))
+
+-- ---- a batch begun
+
+module _ (m : Measured) (items : ℕ) (content out : List ℕ) {r : Encoded} where
+  pub begun-long : 4294967295 < m .length → r ≡ encoded 22 0 0 → FrontWritten m items content out r out
+  unfolding frontEncoded laid
+  begun-long h e = record { answer = rw (lt-leb (m .length) 4294967295 h) e; front = rw e }
+
+  module _ (small : m .length ≤ 4294967295) (told : r ≡ batchEncoded m items content (length out)) where
+    pub begun-none : r .length ≡ 0 → FrontWritten m items content out r out
+    unfolding frontEncoded laid
+    begun-none h = record { answer = rw (le-leb (m .length) 4294967295 small) told; front = rw (eq-eqb (r .length) 0 h) }
+
+    module _ (h : r .length ≡ 0 → ⊥) where
+      pub front-asked : (length content ≤ 2147483647) × (r .length < 72057594037927936) × Room out 0 (frontBytes (r .length) content)
+      front-asked =
+          let k = planned m items content (length out) told h in
+          let block = block-small content in (
+            k .few,
+            omega (arith, k .few, k .size),
+            record { fits = omega (arith, k .size, k .fits, front-length (r .length) content) },
+          )
+
+      pub begun-some : {later : List ℕ} → later ≡ placed out 0 (frontBytes (r .length) content) → FrontWritten m items content out r later
+      unfolding frontEncoded laid
+      begun-some e =
+          record { answer = rw (le-leb (m .length) 4294967295 small) told; front = e ∙ (rw (ne-eqb (r .length) 0 h)) }
+
+-- What it tells of a body that is not too long: the answer, and that header and block stand before where the body is to stand.
+module _ {m : Measured} {items : ℕ} {content out : List ℕ} {r : Encoded} {mid : List ℕ} (begun : FrontWritten m items content out r mid) where
+  pub begun-left : (bs : List ℕ) → r .length ≡ 0 → mid ≡ laid r out 0 bs
+  unfolding laid
+  begun-left bs h = let e = begun .front in rw (eq-eqb (r .length) 0 h) (simp (eq-eqb (r .length) 0 h) at e)
+
+  module _ (small : m .length ≤ 4294967295) where
+    pub begun-told : r ≡ batchEncoded m items content (length out)
+    unfolding frontEncoded
+    begun-told = simp (le-leb (m .length) 4294967295 small) at (begun .answer)
+
+    module _ (h : r .length ≡ 0 → ⊥) where
+      pub body-behind : m .length ≤ r .length
+      body-behind = omega (arith, planned m items content (length out) begun-told h .size)
+
+      pub front-stored : Stored out 0 (frontBytes (r .length) content) (r .length - m .length) mid
+      unfolding laid
+      front-stored =
+          let k = planned m items content (length out) begun-told h in
+          let long = front-length (r .length) content in
+          let fit : 0 + length (frontBytes (r .length) content) ≤ length out = omega (arith, k .size, k .fits) in
+          record {
+            after = omega (arith, k .size);
+            stored =
+                begun .front
+                ∙ (rw (ne-eqb (r .length) 0 h, le-leb (0 + length (frontBytes (r .length) content)) (length out) fit))
+                ∙ sym (sets-eq (frontBytes (r .length) content) out 0 fit);
+          }
 
 -- ---- the body behind them
 
 module _ (s : List ℕ) (checked : Bool) (xs : List LogItem) (ns content out : List ℕ) {m : Measured} (same : m ≡ measureOf s checked xs ns)
-    {items : ℕ} (count : length xs ≡ items) {r : Encoded} (told : r ≡ batchEncoded m items content (length out)) where
+    {items : ℕ} (count : length xs ≡ items) {r : Encoded} {mid : List ℕ} (begun : FrontWritten m items content out r mid) where
+  told : r ≡ batchEncoded m items content (length out)
+  told = begun-told begun (body-small s checked xs ns same)
+
   answers : r ≡ batchEncoded (measureOf s checked xs ns) (length xs) content (length out)
   answers = told ∙ ap₂ (λ (x : Measured) (n : ℕ). batchEncoded x n content (length out)) same (sym count)
 
-  pub batch-left : (signature : ℕ) → r .length ≡ 0 → BatchWritten checked xs ns s content signature out r out
-  unfolding laid
-  batch-left signature h = record { answer = answers; written = rw (eq-eqb (r .length) 0 h) }
+  pub batch-left : (signature : ℕ) → r .length ≡ 0 → BatchWritten checked xs ns s content signature out r mid
+  batch-left signature h = record { answer = answers; written = begun-left begun (framed content (bodyBytes s xs ns signature)) h }
 
   module _ (h : r .length ≡ 0 → ⊥) where
-    pub front-asked : (length content ≤ 2147483647) × (r .length < 72057594037927936) × Room out 0 (frontBytes (r .length) content)
-    front-asked =
-        let k = planned m items content (length out) told h in
-        let small = body-small s checked xs ns same in
-        let block = block-small content in (
-          k .few,
-          omega (arith, k .few, k .size),
-          record { fits = omega (arith, k .size, k .fits, front-length (r .length) content) },
-        )
+    pub batch-behind : m .length ≤ r .length
+    batch-behind = body-behind begun (body-small s checked xs ns same) h
 
-    pub batch-stored : (signature : ℕ) {mid later : List ℕ} {offset : ℕ} {x : Encoded} → Stored out 0 (frontBytes (r .length) content) offset mid
-        → (x ≡ encodedOf (measureOf s checked xs ns) mid offset) × (later ≡ laid x mid offset (bodyBytes s xs ns signature))
+    pub batch-stored : (signature : ℕ) {later : List ℕ} {x : Encoded}
+        → (x ≡ encodedOf (measureOf s checked xs ns) mid (r .length - m .length)) × (later ≡ laid x mid (r .length - m .length) (bodyBytes s xs ns signature))
         → BatchWritten checked xs ns s content signature out r later
     unfolding encodedOf laid framed
-    batch-stored signature {mid} {later} {offset} {x} front p =
+    batch-stored signature {later} {x} p =
+        let offset : ℕ = r .length - m .length in
+        let front : Stored out 0 (frontBytes (r .length) content) offset mid = front-stored begun (body-small s checked xs ns same) h in
         let k = planned m items content (length out) told h in
         let body : List ℕ = bodyBytes s xs ns signature in
         let l : length body ≡ m .length = body-length signature (accepted s checked xs ns m same (k .some)) in

@@ -1,10 +1,6 @@
 pub mod Frames
-pub mod RowsRead
 pub mod Planning
 pub mod Framing
-pub mod RowsWritten
-pub mod Views
-pub mod Marks
 pub mod Determined
 pub mod Again
 pub mod Theorems

@@ -13,7 +13,7 @@ use Rattle.codec.specs.Number.{readFrom, readNumber}
 use Rattle.codec.specs.Shortest.{spell, shortest}
 use Rattle.codec.specs.Word.{bigEndian, littleEndian}
 use Rattle.codec.specs.Byte.{Bytes}
-use Rattle.log_item.specs.Got.{Got, got, refused}
+use Rattle.log_item.specs.Got.{Got, got, refused, done, bind, _>>_}
 use Rattle.log_item.specs.Reading.{byte, number, span, command, putAt, keyValue, firstIndex, entryIndexes, content, head, tail, tails, oneItem}
 use Rattle.log_item.specs.declared.Span.{Span}
 use Rattle.log_item.specs.declared.LogItem.{LogItem}
@@ -22,19 +22,20 @@ use Rattle.list_writer.specs.declared.Encoded.{Encoded}
 use Rattle.list_writer.specs.Bytes.{itemsBytes, listBytes, bodyBytes}
 use Rattle.list_writer.specs.Refusing.{fine, itemsVerdict, listVerdict}
 use Rattle.list_writer.specs.Answers.{measuredOf, measureOf, encoded, laid}
-use Rattle.item_batch.specs.Reading.{accepted, rejected, Answer, readItems}
-use Rattle.item_batch.specs.Body.{readBody, Acceptable}
-use Rattle.item_batch.specs.declared.Wanted.the-variants.{Exactly}
+use Rattle.body_check.specs.Reading.{accepted, rejected, Answer, readItems}
+use Rattle.body_check.specs.Body.{readBody, Acceptable}
+use Rattle.body_check.specs.declared.Wanted.the-variants.{Exactly}
 use Rattle.item_batch.specs.Writing.{listed, rowLengths, BodyWritten, bodyItems, bodyRows, keysAndContents, AllSmall}
 use Rattle.item_batch.specs.declared.LogItemBatch.{LogItemBatch}
 use Rattle.one_reading.proofs.Written.{written-spelled, written-bytes, written-kept, read-back, other-signature, table-small, buffer-written, buffer-read-back}
-use Rattle.item_batch.specs.Table.{tableOf, emptyTable, agreeing}
+use Rattle.body_check.specs.Total.{agreeing}
+use Rattle.item_batch.specs.Table.{tableOf, emptyTable}
 use Rattle.log_batch.specs.declared.LogBatch.{LogBatch}
 use Rattle.log_batch.specs.Header.{frame, header}
-use Rattle.log_batch.specs.Batch.{blockOf, bodyOf, contentLength, sealedBatch, batchTable, readBatch}
+use Rattle.log_batch.specs.Batch.{blockOf, bodyOf, passes, frontBatch, sealedBatch, batchTable, readBatch}
 use Rattle.log_batch.specs.Written.{blockBytes, framed, frameOf, batchEncoded, BatchWritten}
 use Rattle.log_batch.specs.Examples.{AllRight, table}
-use Rattle.log_batch.proofs.Frames.{header-known, batch-known}
+use Rattle.log_batch.proofs.Frames.{header-known, front-known, batch-known}
 use Rattle.log_batch.proofs.Planning.{planned, verdict-of}
 use Rattle.log_batch.proofs.Framing.{whole}
 use Rattle.log_batch.proofs.Again.{body-good, content-size, block-again, body-again, content-again, sealed-again}
@@ -46,13 +47,13 @@ use Rattle.log_item.specs.declared.Form.the-variants.{Any, Plain}
 use Rattle.log_item.specs.Rows.{Joined}
 use Rattle.log_item.specs.Spelling.{NumberIn}
 use Rattle.one_reading.proofs.Numbers.{Asks}
-use Rattle.item_batch.specs.declared.BodyCheck.the-variants as check
-use Rattle.item_batch.specs.declared.PlainForm.the-variants as plain
-use Rattle.item_batch.specs.Spelling.{Spells, list, Begins}
-use Rattle.item_batch.specs.Seal.{sealedPart}
-use Rattle.item_batch.specs.Rows.{Indexed}
-use Rattle.item_batch.specs.Plain.{InPlainForm}
-use Rattle.item_batch.specs.Answers.{checkOf, yesNo, plainBody}
+use Rattle.body_check.specs.declared.BodyCheck.the-variants as check
+use Rattle.body_check.specs.declared.PlainForm.the-variants as plain
+use Rattle.body_check.specs.Spelling.{Spells, list, Begins}
+use Rattle.seal.specs.Seal.{sealedPart, sealCheck, contentLength}
+use Rattle.body_check.specs.Rows.{Indexed}
+use Rattle.body_check.specs.Plain.{InPlainForm}
+use Rattle.body_check.specs.Answers.{checkOf, yesNo, plainBody}
 use Rattle.one_reading.proofs.Accepts.{of-accepted}
 use Rattle.one_reading.proofs.Listing.{complete, sound, items-joined, items-indexed}
 use Rattle.one_reading.proofs.One.{one-spelled}
@@ -269,15 +270,26 @@ module _ (a t : List ℕ) (signature : ℕ) {h : LogBatch} {q : ℕ} (e : header
       let more : 16 ≤ length (a ++ t) = omega (arith, long) in
       rw (le-leb _ _ some, le-leb _ _ more) (ap₂ (λ (x y : List ℕ). frame (bigEndian x) (bigEndian y) 0) (front 8 0 (omega arith)) (front 8 8 (omega arith)))
 
-  same-sealed : sealedBatch (a ++ t) signature 0 ≡ sealedBatch a signature 0
-  unfolding sealedBatch
-  same-sealed =
+  same-front : frontBatch (a ++ t) 0 ≡ frontBatch a 0
+  unfolding frontBatch
+  same-front =
       let k = header-known a e in
       let some : h .len ≤ length a = omega arith in
       let more : h .len ≤ length (a ++ t) = omega (arith, long) in
       let block : blockOf h (a ++ t) ≡ blockOf h a = front (h .offset - 16) 16 (omega arith) in
-      let body : bodyOf h (a ++ t) ≡ bodyOf h a = front (h .len - h .offset) (h .offset) (omega arith) in
-      rw (same-header, e, le-leb _ _ some, le-leb _ _ more, block, body)
+      rw (same-header, e, le-leb _ _ some, le-leb _ _ more, block)
+
+  same-sealed : sealedBatch (a ++ t) signature 0 ≡ sealedBatch a signature 0
+  unfolding sealedBatch
+  same-sealed = rw same-front (go (frontBatch a 0) refl)
+    where
+      go : (g : Got LogBatch) → frontBatch a 0 ≡ g
+          → bind g (λ x. _>>_ (passes (sealCheck (bodyOf x (a ++ t)) signature)) (done x)) ≡ bind g (λ x. _>>_ (passes (sealCheck (bodyOf x a) signature)) (done x))
+      go (got x p) f =
+          let k = front-known a f in
+          let body : bodyOf x (a ++ t) ≡ bodyOf x a = front (x .len - x .offset) (x .offset) (omega (arith, k .inside, k .there)) in
+          rw body
+      go (refused r) f = refl
 
   pub past-ignored : readBatch (a ++ t) signature ≡ readBatch a signature
   unfolding readBatch

@@ -1,17 +1,17 @@
 -- What reading a whole batch under a signature answers: header, 18, 19, block, body, 20. Bytes past the length are not looked at.
 -- Assumes nothing.
 use Prim.Native.Nat.{ℕ, _-_}
-use mathlib.Core.Bool.{cond}
 use mathlib.Core.List.{List}
 use lib.Dec.{leb, eqb}
 use lib.ListN.{length, take, drop}
 use Rattle.log_item.specs.Got.{Got, got, refused, Reading, done, bind, _>>=_, _>>_, Test, _else_}
 use Rattle.log_item.specs.declared.Form.the-variants.{Any}
 use Rattle.item_batch.specs.declared.LogItemBatch.{LogItemBatch}
-use Rattle.item_batch.specs.declared.Wanted.the-variants.{Exactly}
-use Rattle.item_batch.specs.Reading.{readItems}
-use Rattle.item_batch.specs.Seal.{sealedPart, sealCheck}
-use Rattle.item_batch.specs.Table.{emptyTable, tableOf, agreeing}
+use Rattle.body_check.specs.declared.Wanted.the-variants.{Exactly}
+use Rattle.body_check.specs.Reading.{readItems}
+use Rattle.seal.specs.Seal.{sealedPart, sealCheck, blockCheck, contentLength}
+use Rattle.body_check.specs.Total.{agreeing}
+use Rattle.item_batch.specs.Table.{emptyTable, tableOf}
 use Rattle.log_batch.specs.declared.LogBatch.{LogBatch}
 use Rattle.log_batch.specs.Header.{header}
 
@@ -22,25 +22,23 @@ blockOf h s = take (h .offset - 16) (drop 16 s)
 abbrev pub bodyOf : LogBatch → List ℕ → List ℕ
 bodyOf h s = take (h .len - h .offset) (drop (h .offset) s)
 
--- a block: empty, or content and its unsigned checksum
-unfoldable pub blockCheck : List ℕ → ℕ
-blockCheck b = cond (eqb (length b) 0) 0 (sealCheck b 0)
-
--- how long its content is
-abbrev pub contentLength : List ℕ → ℕ
-contentLength b = length b - 4
-
 -- a check that answers a number: 0, or why it fails
 abbrev pub passes : ℕ → Test
 passes r = eqb r 0 else r
 
--- the frame of a batch, up to the checksum of its body
-unfoldable pub sealedBatch : List ℕ → ℕ → Reading LogBatch
-sealedBatch s signature = do
+-- the frame of a batch, up to its block
+unfoldable pub frontBatch : List ℕ → Reading LogBatch
+frontBatch s = do
   h ← header s
   leb (h .len) (length s) else 18
   eqb (h .compression) 0 else 19
   passes (blockCheck (blockOf h s))
+  done h
+
+-- and the checksum of its body
+unfoldable pub sealedBatch : List ℕ → ℕ → Reading LogBatch
+sealedBatch s signature = do
+  h ← frontBatch s
   passes (sealCheck (bodyOf h s) signature)
   done h
 

@@ -1,7 +1,4 @@
 pub mod Header
 pub mod Batch
 pub mod Written
-pub mod View
-pub mod Status
 pub mod Examples
-pub mod Rows

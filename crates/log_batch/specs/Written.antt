@@ -48,6 +48,16 @@ batchEncoded m items content room =
     (cond (ltb 2147483647 (m .total)) (encoded 22 0 0)
     (cond (eqb (m .total) (length content)) (cond (leb size room) (encoded 0 0 size) (encoded 21 0 0)) (encoded 20 0 0))))
 
+-- the same for a measure of any length: no body has more than 4294967295 bytes
+unfoldable pub frontEncoded : Measured → ℕ → List ℕ → ℕ → Encoded
+frontEncoded m items content room = cond (leb (m .length) 4294967295) (batchEncoded m items content room) (encoded 22 0 0)
+
+-- the answer r to a body of the measure m, and the later contents of out: header and block, then what stood there; out as it was where
+-- nothing is written
+pub record FrontWritten (m : Measured) (items : ℕ) (content out : List ℕ) (r : Encoded) (later : List ℕ) : Type 0 where
+  pub answer : r ≡ frontEncoded m items content (length out)
+  pub front : later ≡ laid r out 0 (frontBytes (r .length) content)
+
 -- the answer r to items xs with the lengths ns of their entries, and the later contents of out: the batch, then what stood there; out as it
 -- was where nothing is written
 pub record BatchWritten (checked : Bool) (xs : List LogItem) (ns store content : List ℕ) (signature : ℕ) (out : List ℕ) (r : Encoded) (later : List ℕ) : Type 0 where

@@ -1,36 +1,19 @@
-// Whole batches, read and written: header, block and body; the bytes of an entry; and the status of an atomic group. From log_batch.rs,
-// LogBatch and AtomicGroupStatus.
-mod rows;
-mod status;
-mod view;
-
-pub use rows::read_rows;
-pub use rows::write_rows;
-pub use view::check_entry;
-pub use view::entry_view;
+// Whole batches, read and written: header, block and body. From log_batch.rs, LogBatch.
 ghost use mathlib.Core.Path.{_≡_};
 ghost use mathlib.Core.Bool.{true, false};
 ghost use Prim.Native.Nat.{_+_, _≤_, _<_, _-_};
 ghost use lib.ListN.{length, take, drop};
 ghost use Rattle.log_batch.specs.Header.{frame, header, headerGot};
-ghost use Rattle.log_batch.specs.Batch.{blockCheck, sealedBatch, readBatch};
-ghost use Rattle.log_batch.specs.Written.{blockBytes, frontBytes, batchEncoded, BatchWritten};
-ghost use Rattle.item_batch.specs.Seal.{sealCheck};
+ghost use Rattle.log_batch.specs.Batch.{frontBatch, sealedBatch, readBatch};
+ghost use Rattle.log_batch.specs.Written.{blockBytes, frontBytes, batchEncoded, FrontWritten, BatchWritten};
 ghost use Rattle.item_batch.specs.Writing.{listed, rowLengths};
-ghost use Rattle.item_writer.specs.Private.{Room, Stored};
-ghost use Rattle.refusal.specs.First.{firstOf};
-ghost use Rattle.log_batch.specs.Status.{statusOf};
+ghost use Rattle.codec.specs.Write.{placed};
+ghost use Rattle.item_writer.specs.Private.{Room};
 use codec::U64Read;
-use item_batch::BodyCheck;
 use item_batch::LogItemBatch;
-use item_batch::Wanted;
 use list_writer::Encoded;
 use list_writer::Measured;
-use log_item::LogItem;
-use log_item::LogItemContent;
-use log_item::Op;
 use log_item::Span;
-use refusal::Refusal;
 
 // The frame of a batch, as its header states it.
 pub struct LogBatch {
@@ -45,13 +28,6 @@ pub struct LogBatch {
 pub enum HeaderRead {
     Done { batch: LogBatch },
     Refused(u32),
-}
-
-// How much a batch holds, and where its body and its block stand; 0 0 where it is refused.
-pub struct BatchCheck {
-    pub check: BodyCheck,
-    pub body: Span,
-    pub block: Span,
 }
 
 impl LogBatch {
@@ -86,31 +62,70 @@ impl LogBatch {
         }
     }
 
+    // The frame of a batch whose header, length, compression type, block and checksum of the body are right.
+    pub fn check_frame(buf: &[u8], signature: u32) -> HeaderRead
+        ensures { λ r. ⌜ headerGot r ≡ sealedBatch (now (buf .entry)) signature 0 ⌝ }
+    {
+        match check_front(buf) {
+            HeaderRead::Refused(number) => HeaderRead::Refused(number),
+            HeaderRead::Done { batch } => {
+                let offset = batch.offset;
+                let len = batch.len;
+                let broken = seal::check_seal(&buf[offset..len], signature);
+                if broken != refusal::NONE {
+                    return HeaderRead::Refused(broken);
+                }
+                HeaderRead::Done { batch }
+            }
+        }
+    }
+
     // A whole batch under a signature. Bytes past its length are not looked at; spans are in the body.
     pub fn decode(buf: &[u8], signature: u32) -> LogItemBatch
         ensures { λ r. ⌜ r ≡ readBatch (now (buf .entry)) signature ⌝ }
     {
-        match check_frame(buf, signature) {
+        match check_front(buf) {
             HeaderRead::Refused(number) => LogItemBatch::empty(number, 0),
             HeaderRead::Done { batch } => {
                 let offset = batch.offset;
-                let end = batch.len - LogBatch::CHECKSUM_LEN;
+                let len = batch.len;
                 let body = Span {
                     at: offset,
-                    len: batch.len - offset,
+                    len: len - offset,
                 };
                 let block = Span {
                     at: LogBatch::HEADER_LEN,
                     len: offset - LogBatch::HEADER_LEN,
                 };
-                LogItemBatch::fill(
-                    &buf[offset..end],
-                    Wanted::Exactly(content_len(block.len)),
-                    body,
-                    block,
-                )
+                let mut t = LogItemBatch::decode(&buf[offset..len], signature);
+                if t.refusal.number != refusal::NONE {
+                    return t;
+                }
+                if t.total as usize != seal::content_len(block.len) {
+                    return LogItemBatch::empty(refusal::BLOCK_DIFFERS, 0);
+                }
+                t.body = body;
+                t.block = block;
+                t
             }
         }
+    }
+
+    // Begins a whole batch whose body has this measure: decides every refusal, and where there is none writes header and block at the start
+    // of out; the body is to follow, and ends at the length that is answered. Else out is as it was. No body has more than 4294967295
+    // bytes: such a measure is a 22.
+    pub fn begin(m: Measured, items: usize, content: &[u8], out: &mut [u8]) -> Encoded
+        ensures { λ r. ⌜ FrontWritten m items (now (content .entry)) (now (out .entry)) r (now (out .exit)) ⌝ }
+    {
+        if 4294967295 < m.length {
+            return answer(refusal::OUTPUT_TOO_LONG, 0, 0);
+        }
+        let r = plan(m, items, content, out.len());
+        if r.length == 0 {
+            return r;
+        }
+        write_front(content, r.length, out);
+        r
     }
 
     // Writes the table's items as a whole batch under a signature, from the start of out on, or leaves out as it was and says why. Of the
@@ -131,11 +146,11 @@ impl LogBatch {
         let entries = table.entries;
         let rows = table.entry_count;
         let m = list_writer::measure(items, count, entries, rows, store, true);
-        let r = plan(m, count, content, out.len());
+        let r = LogBatch::begin(m, count, content, out);
         if r.length == 0 {
             return r;
         }
-        let at = write_front(content, r.length, out);
+        let at = r.length - m.length;
         list_writer::encode(items, count, entries, rows, store, signature, true, out, at);
         r
     }
@@ -155,11 +170,11 @@ impl LogBatch {
         let entries = table.entries;
         let rows = table.entry_count;
         let m = list_writer::measure(items, count, entries, rows, store, false);
-        let r = plan(m, count, content, out.len());
+        let r = LogBatch::begin(m, count, content, out);
         if r.length == 0 {
             return r;
         }
-        let at = write_front(content, r.length, out);
+        let at = r.length - m.length;
         list_writer::encode(
             items,
             count,
@@ -222,21 +237,20 @@ fn body_offset(content: &[u8]) -> usize
     LogBatch::HEADER_LEN + content.len() + LogBatch::CHECKSUM_LEN
 }
 
-// Writes the header of a batch of this length, and the block; answers where the body stands.
-fn write_front(content: &[u8], len: usize, out: &mut [u8]) -> usize
+// Writes the header of a batch of this length, and the block.
+fn write_front(content: &[u8], len: usize, out: &mut [u8])
     requires { ⌜ (length (now content) ≤ 2147483647) × (len < 72057594037927936) × Room (now out) 0 (frontBytes len (now content)) ⌝ }
-    ensures { λ r. ⌜ Stored (now (out .entry)) 0 (frontBytes len (now (content .entry))) r (now (out .exit)) ⌝ }
+    ensures { λ r. ⌜ now (out .exit) ≡ placed (now (out .entry)) 0 (frontBytes len (now (content .entry))) ⌝ }
 {
     let start = LogBatch::HEADER_LEN;
     let offset = body_offset(content);
     codec::encode_u64(len as u64 * 256, out, 0);
     codec::encode_u64(offset as u64, out, 8);
     if content.len() == 0 {
-        return offset;
+        return;
     }
     codec::write_bytes(content, out, start);
     codec::encode_u32_le(crc::crc32(content), out, start + content.len());
-    offset
 }
 
 // What the two words of a header state.
@@ -264,97 +278,26 @@ fn read_frame(first: u64, second: u64) -> HeaderRead
     }
 }
 
-// The frame of a batch whose header, length, compression type, block and checksum of the body are right.
-fn check_frame(buf: &[u8], signature: u32) -> HeaderRead
-    ensures { λ r. ⌜ headerGot r ≡ sealedBatch (now (buf .entry)) signature 0 ⌝ }
+// The frame of a batch whose header, length, compression type and block are right.
+fn check_front(buf: &[u8]) -> HeaderRead
+    ensures { λ r. ⌜ headerGot r ≡ frontBatch (now (buf .entry)) 0 ⌝ }
 {
     match LogBatch::decode_header(buf) {
         HeaderRead::Refused(number) => HeaderRead::Refused(number),
         HeaderRead::Done { batch } => {
+            let start = LogBatch::HEADER_LEN;
             let offset = batch.offset;
-            let len = batch.len;
-            if buf.len() < len {
+            if buf.len() < batch.len {
                 return HeaderRead::Refused(refusal::BATCH_SHORT);
             }
             if batch.compression != 0 {
                 return HeaderRead::Refused(refusal::COMPRESSED);
             }
-            let broken = check_seals(buf, offset, len, signature);
+            let broken = seal::check_block(&buf[start..offset]);
             if broken != refusal::NONE {
                 return HeaderRead::Refused(broken);
             }
             HeaderRead::Done { batch }
-        }
-    }
-}
-
-// The block, then the body's checksum: 0, or 5 or 6.
-fn check_seals(buf: &[u8], offset: usize, len: usize, signature: u32) -> u32
-    requires { ⌜ (16 ≤ offset) × (offset ≤ len) × (len ≤ length (now buf)) ⌝ }
-    ensures { λ r. ⌜ r ≡ firstOf (blockCheck (take (offset - 16) (drop 16 (now (buf .entry))))) (sealCheck (take (len - offset) (drop offset (now (buf .entry)))) signature) ⌝ }
-{
-    let start = LogBatch::HEADER_LEN;
-    let broken = check_block(&buf[start..offset]);
-    if broken != refusal::NONE {
-        return broken;
-    }
-    item_batch::check_seal(&buf[offset..len], signature)
-}
-
-// Whether a block is empty, or its last four bytes are the checksum of those before them: 0, or 5 or 6.
-pub fn check_block(block: &[u8]) -> u32
-    ensures { λ r. ⌜ r ≡ blockCheck (now (block .entry)) ⌝ }
-{
-    if block.len() == 0 {
-        return refusal::NONE;
-    }
-    item_batch::check_seal(block, 0)
-}
-
-// The length of a block's content.
-fn content_len(len: usize) -> usize
-    ensures { λ r. ⌜ r ≡ len - 4 ⌝ }
-{
-    if len < LogBatch::CHECKSUM_LEN {
-        return 0;
-    }
-    len - LogBatch::CHECKSUM_LEN
-}
-
-// What a mark says of its group of batches.
-pub enum AtomicGroupStatus {
-    Begin,
-    Middle,
-    End,
-}
-
-// The status that an item marks and the group's number; or that it is no mark; or why it is refused.
-pub enum StatusRead {
-    Mark { id: u64, status: AtomicGroupStatus },
-    NoMark,
-    Refused(Refusal),
-}
-
-impl AtomicGroupStatus {
-    // What an item marks. `store` has the bytes that the item's spans lie in.
-    pub fn parse(item: LogItem, store: &[u8]) -> StatusRead
-        ensures { λ r. ⌜ r ≡ statusOf item (item .content) (now (store .entry)) ⌝ }
-    {
-        let content = item.content;
-        match content {
-            LogItemContent::EntryIndexes(_) => StatusRead::NoMark,
-            LogItemContent::Command(_) => StatusRead::NoMark,
-            LogItemContent::Kv(kv) => {
-                let key = kv.key;
-                let op = kv.op;
-                if !log_item::lies_in(store, key) {
-                    return status::outside();
-                }
-                match op {
-                    Op::Del => StatusRead::NoMark,
-                    Op::Put { value } => status::put_status(item.raft_group_id, key, value, store),
-                }
-            }
         }
     }
 }

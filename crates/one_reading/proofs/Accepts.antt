@@ -8,7 +8,7 @@ use Rattle.log_item.specs.declared.EntryIndex.{EntryIndex}
 use Rattle.log_item.specs.Got.{Got}
 use Rattle.log_item.specs.Reading.{Read}
 use Rattle.log_item.proofs.Holds.{Holds, holds, refuses}
-use Rattle.item_batch.specs.Reading.{Answer, accepted, rejected, before, inFront, counted}
+use Rattle.body_check.specs.Reading.{Answer, accepted, rejected, before, inFront, counted}
 
 -- What is accepted has the property; a refusal has it trivially.
 pub data Accepts (P : List LogItem → List EntryIndex → ℕ → ℕ → Type 0) : Answer → Type 0 where

@@ -16,13 +16,13 @@ use Rattle.log_item.specs.declared.LogItem.{LogItem}
 use Rattle.log_item.specs.declared.EntryIndex.{EntryIndex}
 use Rattle.codec.specs.Byte.{Bytes}
 use Rattle.one_reading.proofs.Place.{bytes-at, at-front}
-use Rattle.item_batch.specs.declared.PlainForm.the-variants as plain
-use Rattle.item_batch.specs.Spelling.{Begins}
-use Rattle.item_batch.specs.Reading.{Answer, accepted, rejected, readItems}
-use Rattle.item_batch.specs.Seal.{sealedPart, footer, sealCheck}
-use Rattle.item_batch.specs.Body.{unless, readBody, Acceptable}
-use Rattle.item_batch.specs.Plain.{InPlainForm}
-use Rattle.item_batch.specs.Answers.{plainOf, plainBody}
+use Rattle.body_check.specs.declared.PlainForm.the-variants as plain
+use Rattle.body_check.specs.Spelling.{Begins}
+use Rattle.body_check.specs.Reading.{Answer, accepted, rejected, readItems}
+use Rattle.seal.specs.Seal.{sealedPart, footer, sealCheck}
+use Rattle.body_check.specs.Body.{unless, readBody, Acceptable}
+use Rattle.body_check.specs.Plain.{InPlainForm}
+use Rattle.body_check.specs.Answers.{plainOf, plainBody}
 use Rattle.one_reading.proofs.Accepts.{of-accepted}
 use Rattle.one_reading.proofs.Listing.{complete, sound, spells-some, begins-any}
 

@@ -23,11 +23,11 @@ use Rattle.one_reading.proofs.ItemRows.{each-append, each-split, item-l
 use Rattle.one_reading.proofs.Complete.{complete-item}
 use Rattle.one_reading.proofs.Sound.{sound-item}
 use Rattle.one_reading.proofs.Forms.{item-as}
-use Rattle.item_batch.specs.Limits.{Within}
-use Rattle.item_batch.specs.Spelling.{Items, end, then, Spells, list, Begins}
-use Rattle.item_batch.specs.Reading.{accepted, items, count, readItems}
-use Rattle.item_batch.specs.Rows.{Indexed}
-use Rattle.item_batch.specs.Rows as rowed
+use Rattle.body_check.specs.Limits.{Within}
+use Rattle.body_check.specs.Spelling.{Items, end, then, Spells, list, Begins}
+use Rattle.body_check.specs.Reading.{accepted, items, count, readItems}
+use Rattle.body_check.specs.Rows.{Indexed}
+use Rattle.body_check.specs.Rows as rowed
 use Rattle.one_reading.proofs.Accepts.{Accepts, accepts, in-front, counting, weaken, one-more}
 
 module _ (form : Form) {s : List ℕ} where

@@ -46,16 +46,16 @@ use Rattle.list_writer.specs.Refusing.{fine, itemsVerdict, listVerdict}
 use Rattle.list_writer.proofs.Heads.{cond-fine}
 use Rattle.one_reading.proofs.ListWritten.{items-split, items-fine, Encodes, writes, leaves, encodes}
 use Rattle.item_batch.specs.declared.LogItemBatch.{LogItemBatch}
-use Rattle.item_batch.specs.Limits.{Within}
-use Rattle.item_batch.specs.Spelling.{Items, end, then, Spells, list}
-use Rattle.item_batch.specs.Reading.{accepted, rejected}
-use Rattle.item_batch.specs.Seal.{sealCheck}
-use Rattle.item_batch.specs.Body.{readBody}
+use Rattle.body_check.specs.Limits.{Within}
+use Rattle.body_check.specs.Spelling.{Items, end, then, Spells, list}
+use Rattle.body_check.specs.Reading.{accepted, rejected}
+use Rattle.seal.specs.Seal.{sealCheck}
+use Rattle.body_check.specs.Body.{readBody}
 use Rattle.item_batch.specs.Writing as table
 use Rattle.item_batch.specs.Writing.{listed, BodyWritten, itemsAt, rowsAt, bodyItems, bodyRows, keysAndContents, AllSmall, none, one}
 use Rattle.one_reading.proofs.Listing.{spells-as, spells-some}
 use Rattle.one_reading.proofs.Bodies.{part-of, footer-of, complete-body}
-use Rattle.item_batch.proofs.Sealing.{body-refused}
+use Rattle.body_check.proofs.Bodies.{body-refused}
 use Rattle.one_reading.proofs.WrittenBytes as octets
 use Rattle.one_reading.proofs.WrittenBytes.{AllBytes, joined, bytes-all, shortest-bytes, item-bytes}
 

@@ -9,11 +9,11 @@ use Rattle.log_item.specs.declared.LogItem.{LogItem}
 use Rattle.item_row.specs.declared.RowRead.{RowRead}
 use Rattle.item_row.specs.declared.RowRead.the-variants.{Item, Refused}
 use Rattle.item_row.specs.Row.{rowItem, rowAt}
-use Rattle.log_batch.specs.declared.AtomicGroupStatus.{AtomicGroupStatus}
-use Rattle.log_batch.specs.declared.StatusRead.{StatusRead}
-use Rattle.log_batch.specs.declared.StatusRead.the-variants.{Mark}
-use Rattle.log_batch.specs.Status.{statusOf}
-use Rattle.log_batch.specs.View.{entryCheck}
+use Rattle.atomic_status.specs.declared.AtomicGroupStatus.{AtomicGroupStatus}
+use Rattle.atomic_status.specs.declared.StatusRead.{StatusRead}
+use Rattle.atomic_status.specs.declared.StatusRead.the-variants.{Mark}
+use Rattle.atomic_status.specs.Status.{statusOf}
+use Rattle.entry_view.specs.View.{entryCheck}
 use Rattle.raft_log.specs.Reply.{Reply, reply}
 use Rattle.raft_log.specs.Answers.{queueCheck, viewReply, viewOf, markOf, statusReply, rowStatus}
 

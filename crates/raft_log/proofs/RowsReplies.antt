@@ -5,13 +5,13 @@ use mathlib.Core.Path.{_≡_, refl, sym, ap, _∙_}
 use mathlib.Core.List.{List, [], _∷_}
 use Rattle.refusal.specs.declared.Refusal.{Refusal}
 use Rattle.log_item.specs.declared.Span.{Span}
-use Rattle.item_batch.specs.declared.BodyCheck.{BodyCheck}
-use Rattle.item_batch.specs.declared.BodyCheck.the-variants.{Accepted, Refused}
-use Rattle.item_batch.specs.Reading.{Answer}
+use Rattle.body_check.specs.declared.BodyCheck.{BodyCheck}
+use Rattle.body_check.specs.declared.BodyCheck.the-variants.{Accepted, Refused}
+use Rattle.body_check.specs.Reading.{Answer}
 use Rattle.rows_reader.specs.Lent.{RowsRead}
-use Rattle.log_batch.specs.declared.BatchCheck.{BatchCheck}
+use Rattle.batch_rows.specs.declared.BatchCheck.{BatchCheck}
 use Rattle.log_batch.specs.Batch.{sealedBatch}
-use Rattle.log_batch.specs.Rows.{bodyPlace, blockPlace, placeIf, BatchRead}
+use Rattle.batch_rows.specs.Rows.{bodyPlace, blockPlace, placeIf, BatchRead}
 use Rattle.raft_log.specs.Reply.{Reply, reply}
 use Rattle.raft_log.specs.Answers.{checkReply}
 use Rattle.raft_log.specs.RowsRead.{RowsReplied, batchReply, BatchReplied}

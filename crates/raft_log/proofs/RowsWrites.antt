@@ -9,7 +9,7 @@ use Rattle.list_writer.specs.Bytes.{bodyBytes}
 use Rattle.list_writer.specs.Answers.{laid}
 use Rattle.list_writer.specs.Rows.{rowItems, entryLengths}
 use Rattle.log_batch.specs.Written.{framed}
-use Rattle.log_batch.specs.Rows.{RowsWritten}
+use Rattle.batch_rows.specs.Rows.{RowsWritten}
 use Rattle.raft_log.specs.Reply.{Reply}
 use Rattle.raft_log.specs.RowsWritten.{writtenReply, bodyEncoded, BodyReplied, BatchReplied}
 

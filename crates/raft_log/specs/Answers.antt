@@ -12,17 +12,17 @@ use Rattle.codec.specs.declared.Wrote.the-variants as wrote
 use Rattle.log_item.specs.Got.{Got, got, refused}
 use Rattle.item_row.specs.declared.RowRead.{RowRead}
 use Rattle.item_row.specs.declared.RowRead.the-variants as row
-use Rattle.item_batch.specs.declared.BodyCheck.{BodyCheck}
-use Rattle.item_batch.specs.declared.BodyCheck.the-variants as check
-use Rattle.item_batch.specs.declared.PlainForm.{PlainForm}
-use Rattle.item_batch.specs.declared.PlainForm.the-variants as plain
+use Rattle.body_check.specs.declared.BodyCheck.{BodyCheck}
+use Rattle.body_check.specs.declared.BodyCheck.the-variants as check
+use Rattle.body_check.specs.declared.PlainForm.{PlainForm}
+use Rattle.body_check.specs.declared.PlainForm.the-variants as plain
 use Rattle.log_batch.specs.declared.LogBatch.{LogBatch}
-use Rattle.log_batch.specs.declared.AtomicGroupStatus.{AtomicGroupStatus}
-use Rattle.log_batch.specs.declared.AtomicGroupStatus.the-variants.{Begin, Middle, End}
-use Rattle.log_batch.specs.declared.StatusRead.{StatusRead}
-use Rattle.log_batch.specs.declared.StatusRead.the-variants as status
-use Rattle.log_batch.specs.Status.{statusOf}
-use Rattle.log_batch.specs.View.{entryCheck}
+use Rattle.atomic_status.specs.declared.AtomicGroupStatus.{AtomicGroupStatus}
+use Rattle.atomic_status.specs.declared.AtomicGroupStatus.the-variants.{Begin, Middle, End}
+use Rattle.atomic_status.specs.declared.StatusRead.{StatusRead}
+use Rattle.atomic_status.specs.declared.StatusRead.the-variants as status
+use Rattle.atomic_status.specs.Status.{statusOf}
+use Rattle.entry_view.specs.View.{entryCheck}
 use Rattle.raft_log.specs.Reply.{Reply, reply}
 
 -- the number, the place after it

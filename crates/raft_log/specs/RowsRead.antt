@@ -5,13 +5,13 @@ use mathlib.Core.Path.{_≡_}
 use mathlib.Core.List.{List, [], _∷_}
 use lib.ListN.{length}
 use Rattle.log_item.specs.declared.Span.{Span}
-use Rattle.item_batch.specs.declared.BodyCheck.{BodyCheck}
-use Rattle.item_batch.specs.declared.BodyCheck.the-variants.{Accepted, Refused}
-use Rattle.item_batch.specs.Reading.{Answer}
-use Rattle.item_batch.specs.Answers.{checkOf}
+use Rattle.body_check.specs.declared.BodyCheck.{BodyCheck}
+use Rattle.body_check.specs.declared.BodyCheck.the-variants.{Accepted, Refused}
+use Rattle.body_check.specs.Reading.{Answer}
+use Rattle.body_check.specs.Answers.{checkOf}
 use Rattle.rows_reader.specs.Lent.{fitting, itemsAfter, entriesAfter}
 use Rattle.log_batch.specs.Batch.{sealedBatch}
-use Rattle.log_batch.specs.Rows.{batchAnswer, bodyPlace, blockPlace}
+use Rattle.batch_rows.specs.Rows.{batchAnswer, bodyPlace, blockPlace}
 use Rattle.raft_log.specs.Reply.{Reply, reply}
 use Rattle.raft_log.specs.Answers.{checkReply}
 

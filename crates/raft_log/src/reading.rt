@@ -1,14 +1,14 @@
 // Bodies and batches, read into rows of words that the caller lends.
 ghost use mathlib.Core.Path.{_≡_};
 ghost use Rattle.log_item.specs.declared.Form.the-variants.{Any};
-ghost use Rattle.item_batch.specs.Reading.{readItems};
-ghost use Rattle.item_batch.specs.Body.{readBody};
+ghost use Rattle.body_check.specs.Reading.{readItems};
+ghost use Rattle.body_check.specs.Body.{readBody};
 ghost use Rattle.raft_log.specs.Reply.{reply};
 ghost use Rattle.raft_log.specs.RowsRead.{RowsReplied, batchReply, BatchReplied};
 use crate::put_check;
-use item_batch::BodyCheck;
-use item_batch::Wanted;
-use log_batch::BatchCheck;
+use batch_rows::BatchCheck;
+use body_check::BodyCheck;
+use body_check::Wanted;
 
 // A body, read into rows.
 #[no_mangle]
@@ -50,7 +50,7 @@ pub extern "C" fn raft_log_read_batch(
 ) -> u32
     ensures { λ r. ⌜ BatchReplied (now («data» .entry)) signature (now (items .entry)) (now (entries .entry)) (reply r (now (answer .exit))) (now (items .exit)) (now (entries .exit)) ⌝ }
 {
-    let r = log_batch::read_rows(data, signature, items, entries);
+    let r = batch_rows::read_rows(data, signature, items, entries);
     put_batch(r, answer)
 }
 

@@ -50,7 +50,7 @@ pub extern "C" fn raft_log_write_batch(
 ) -> u32
     ensures { λ r. ⌜ BatchReplied true (now (items .entry)) (now (entries .entry)) (now (store .entry)) (now (content .entry)) signature (now (out .entry)) (reply r (now (answer .exit))) (now (out .exit)) ⌝ }
 {
-    let r = log_batch::write_rows(items, entries, store, content, signature, true, out);
+    let r = batch_rows::write_rows(items, entries, store, content, signature, true, out);
     put_written(r, answer)
 }
 
@@ -67,7 +67,7 @@ pub extern "C" fn raft_log_write_batch_unchecked(
 ) -> u32
     ensures { λ r. ⌜ BatchReplied false (now (items .entry)) (now (entries .entry)) (now (store .entry)) (now (content .entry)) signature (now (out .entry)) (reply r (now (answer .exit))) (now (out .exit)) ⌝ }
 {
-    let r = log_batch::write_rows(items, entries, store, content, signature, false, out);
+    let r = batch_rows::write_rows(items, entries, store, content, signature, false, out);
     put_written(r, answer)
 }
 

@@ -11,13 +11,13 @@ use Rattle.refusal.specs.declared.Refusal.{Refusal}
 use Rattle.log_item.specs.declared.Form.the-variants.{Any}
 use Rattle.log_item.specs.declared.LogItem.{LogItem}
 use Rattle.log_item.specs.declared.EntryIndex.{EntryIndex}
-use Rattle.item_batch.specs.declared.BodyCheck.{BodyCheck}
-use Rattle.item_batch.specs.declared.BodyCheck.the-variants.{Accepted, Refused}
-use Rattle.item_batch.specs.declared.Wanted.{Wanted}
-use Rattle.item_batch.specs.declared.Wanted.the-variants.{Free, Exactly}
-use Rattle.item_batch.specs.Reading.{Answer, accepted, rejected, readItems}
-use Rattle.item_batch.specs.Answers.{checkOf}
-use Rattle.item_batch.specs.Table.{agreeing}
+use Rattle.body_check.specs.declared.BodyCheck.{BodyCheck}
+use Rattle.body_check.specs.declared.BodyCheck.the-variants.{Accepted, Refused}
+use Rattle.body_check.specs.declared.Wanted.{Wanted}
+use Rattle.body_check.specs.declared.Wanted.the-variants.{Free, Exactly}
+use Rattle.body_check.specs.Reading.{Answer, accepted, rejected, readItems}
+use Rattle.body_check.specs.Answers.{checkOf}
+use Rattle.body_check.specs.Total.{agreeing}
 use Rattle.rows_reader.specs.Lent.{RowsRead}
 use Rattle.rows_reader.specs.Private.{Fits, Filled}
 

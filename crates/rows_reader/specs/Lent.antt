@@ -7,9 +7,9 @@ use mathlib.Core.List.{List, _++_}
 use lib.Dec.{leb}
 use lib.ListN.{length, drop}
 use Rattle.item_row.specs.Row.{itemsWords, entriesWords}
-use Rattle.item_batch.specs.declared.BodyCheck.{BodyCheck}
-use Rattle.item_batch.specs.Reading.{Answer, accepted, rejected}
-use Rattle.item_batch.specs.Answers.{checkOf}
+use Rattle.body_check.specs.declared.BodyCheck.{BodyCheck}
+use Rattle.body_check.specs.Reading.{Answer, accepted, rejected}
+use Rattle.body_check.specs.Answers.{checkOf}
 
 -- an answer that has more rows than are lent, seven words for an item and three for an entry, is a 21
 abbrev pub fitting : ℕ → ℕ → Answer → Answer

@@ -8,7 +8,7 @@ use lib.Seq.{sets}
 use Rattle.log_item.specs.declared.Form.the-variants.{Any}
 use Rattle.log_item.specs.declared.LogItem.{LogItem}
 use Rattle.log_item.specs.declared.EntryIndex.{EntryIndex}
-use Rattle.item_batch.specs.Reading.{accepted, readItems}
+use Rattle.body_check.specs.Reading.{accepted, readItems}
 use Rattle.rows_reader.specs.Lent.{itemsAfter, entriesAfter}
 
 -- Words are stored from a place on.

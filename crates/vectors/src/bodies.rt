@@ -2,9 +2,9 @@
 use crate::input;
 use crate::tables;
 use crate::text;
+use body_check::PlainForm;
 use codec::Wrote;
 use item_batch::LogItemBatch;
-use item_batch::PlainForm;
 use log_batch::LogBatch;
 
 // A body or a whole batch, read into a table.
@@ -42,7 +42,7 @@ pub(crate) fn plain(line: &[u8]) {
     let mut buf = [0u8; 64];
     let n = input::bytes(line, 2, &mut buf);
     input::start(line);
-    form(item_batch::plain(text::front(&buf, n), 0));
+    form(body_check::plain(text::front(&buf, n), 0));
     text::end();
 }
 

@@ -3,8 +3,8 @@
 use mathlib.Core.Path.{sym, ap, _∙_}
 use lib.Seq.{length-take-le}
 use Rattle.item_batch.specs.Table.{tableOf}
-use Rattle.item_batch.specs.declared.Wanted.the-variants.{Free}
-use Rattle.item_batch.proofs.Sealing.{seal-long, body-refused, body-sealed}
+use Rattle.seal.proofs.Sealing.{seal-long}
+use Rattle.body_check.proofs.Bodies.{body-refused, body-sealed}
 use Rattle.item_batch.proofs.Tables.{refused-table}
 use borrow.Author.Needs.{needs}
 use native.Mathlib.Omega.{arith}
@@ -18,7 +18,7 @@ empty-requires : tie.Need-empty-requires
 empty-requires c κs = search needs
 
 returns : tie.Need-returns
-returns c = refused-table _ _ Free (c .empty .ensures) (body-refused _ _ (c .before .before .check-seal .ensures) (c .before .if1 .taken))
+returns c = refused-table _ _ (c .empty .ensures) (body-refused _ _ (c .before .before .check-seal .ensures) (c .before .if1 .taken))
 
 sub-n : tie.Need-sub-n
 sub-n c = let a = c .before .before .before .args in omega (arith, seal-long (a .body .now) (a .signature) (sym (c .before .check-seal .ensures) ∙ c .if1 .left))

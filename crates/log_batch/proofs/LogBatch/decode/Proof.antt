@@ -3,14 +3,14 @@
 use Rattle.log_item.proofs.Fields.{learnt}
 use Rattle.log_batch.specs.Header.{headerGot}
 use denote.Ref.{now}
-use Rattle.log_batch.proofs.Frames.{batch-known, table-refused, table-read}
+use Rattle.log_batch.proofs.Frames.{front-known, table-refused, table-stays, table-differs, table-placed}
 use native.Mathlib.Omega.{arith}
 use borrow.Author.Needs.{needs}
 use Rattle.log_batch.proofs.LogBatch.decode.Statement.{statement}
 use Rattle.log_batch.proofs.LogBatch.decode.Tie as tie
 
-check-frame-requires : tie.Need-check-frame-requires
-check-frame-requires c κs = search needs
+check-front-requires : tie.Need-check-front-requires
+check-front-requires c κs = search needs
 
 enum-known-number : tie.Need-enum-known-number
 enum-known-number c = search needs
@@ -21,51 +21,63 @@ empty-requires c κs = search needs
 enum-known-batch : tie.Need-enum-known-batch
 enum-known-batch c = search needs
 
-sub-end : tie.Need-sub-end
-sub-end c = let f = batch-known (now (c .before .before .before .before .before .before .args .buf)) (c .before .before .before .before .before .before .args .signature) (learnt headerGot (c .before .before .before .before .check-frame .ensures) (c .before .before .batch .given .1)) in omega (arith, f .start, f .long, f .there)
+sub-decode : tie.Need-sub-decode
+sub-decode c = let f = front-known (now (c .before .before .before .before .before .args .buf)) (learnt headerGot (c .before .before .before .check-front .ensures) (c .before .batch .given .1)) in omega (arith, f .start, f .inside, f .there)
 
-sub-fill : tie.Need-sub-fill
-sub-fill c = let f = batch-known (now (c .before .before .before .before .before .before .before .args .buf)) (c .before .before .before .before .before .before .before .args .signature) (learnt headerGot (c .before .before .before .before .before .check-frame .ensures) (c .before .before .before .batch .given .1)) in omega (arith, f .start, f .long, f .there)
+sub-decode-2 : tie.Need-sub-decode-2
+sub-decode-2 c = let f = front-known (now (c .before .before .before .before .before .args .buf)) (learnt headerGot (c .before .before .before .check-front .ensures) (c .before .batch .given .1)) in omega (arith, f .start, f .inside, f .there)
 
-sub-fill-2 : tie.Need-sub-fill-2
-sub-fill-2 c = let f = batch-known (now (c .before .before .before .before .before .before .before .args .buf)) (c .before .before .before .before .before .before .before .args .signature) (learnt headerGot (c .before .before .before .before .before .check-frame .ensures) (c .before .before .before .batch .given .1)) in omega (arith, f .start, f .long, f .there)
+sub-decode-3 : tie.Need-sub-decode-3
+sub-decode-3 c = let f = front-known (now (c .before .before .before .before .before .args .buf)) (learnt headerGot (c .before .before .before .check-front .ensures) (c .before .batch .given .1)) in omega (arith, f .start, f .inside, f .there)
 
-sub-fill-3 : tie.Need-sub-fill-3
-sub-fill-3 c = let f = batch-known (now (c .before .before .before .before .before .before .before .args .buf)) (c .before .before .before .before .before .before .before .args .signature) (learnt headerGot (c .before .before .before .before .before .check-frame .ensures) (c .before .before .before .batch .given .1)) in omega (arith, f .start, f .long, f .there)
+part-decode-start : tie.Need-part-decode-start
+part-decode-start c = let f = front-known (now (c .before .before .before .before .before .args .buf)) (learnt headerGot (c .before .before .before .check-front .ensures) (c .before .batch .given .1)) in omega (arith, f .start, f .inside, f .there)
 
-part-fill-start : tie.Need-part-fill-start
-part-fill-start c = let f = batch-known (now (c .before .before .before .before .before .before .before .args .buf)) (c .before .before .before .before .before .before .before .args .signature) (learnt headerGot (c .before .before .before .before .before .check-frame .ensures) (c .before .before .before .batch .given .1)) in omega (arith, f .start, f .long, f .there)
+part-decode-end : tie.Need-part-decode-end
+part-decode-end c = let f = front-known (now (c .before .before .before .before .before .args .buf)) (learnt headerGot (c .before .before .before .check-front .ensures) (c .before .batch .given .1)) in omega (arith, f .start, f .inside, f .there)
 
-part-fill-end : tie.Need-part-fill-end
-part-fill-end c = let f = batch-known (now (c .before .before .before .before .before .before .before .args .buf)) (c .before .before .before .before .before .before .before .args .signature) (learnt headerGot (c .before .before .before .before .before .check-frame .ensures) (c .before .before .before .batch .given .1)) in omega (arith, f .start, f .long, f .there)
+decode-requires : tie.Need-decode-requires
+decode-requires c κs = search needs
+
+returns : tie.Need-returns
+returns c = table-stays _ _ (learnt headerGot (c .before .before .before .before .before .before .before .check-front .ensures) (c .before .before .before .before .before .batch .given .1)) _ _ (c .before .before .decode .ensures) (c .if1 .taken)
+
+cast-if2 : tie.Need-cast-if2
+cast-if2 c = search needs
 
 content-len-requires : tie.Need-content-len-requires
 content-len-requires c κs = search needs
 
-fill-requires : tie.Need-fill-requires
-fill-requires c κs = search needs
-
-returns : tie.Need-returns
-returns c = table-refused _ _ (learnt headerGot (c .before .before .before .before .check-frame .ensures) (c .before .before .number .given .1)) (c .empty .ensures)
+empty-requires-2 : tie.Need-empty-requires-2
+empty-requires-2 c κs = search needs
 
 returns-2 : tie.Need-returns-2
-returns-2 c = table-read _ _ (learnt headerGot (c .before .before .before .before .before .before .before .before .check-frame .ensures) (c .before .before .before .before .before .before .batch .given .1)) (c .before .content-len .ensures) (c .fill .ensures)
+returns-2 c = table-differs _ _ (learnt headerGot (c .before .before .before .before .before .before .before .before .before .before .before .check-front .ensures) (c .before .before .before .before .before .before .before .before .before .batch .given .1)) _ _ (c .before .before .before .before .before .before .decode .ensures) (c .before .before .before .before .if1 .left) (c .before .before .content-len .ensures) (c .before .if2 .taken) (c .empty2 .ensures)
+
+returns-3 : tie.Need-returns-3
+returns-3 c = table-refused _ _ (learnt headerGot (c .before .before .before .before .check-front .ensures) (c .before .before .number .given .1)) (c .empty .ensures)
+
+returns-4 : tie.Need-returns-4
+returns-4 c = table-placed _ _ (learnt headerGot (c .before .before .before .before .before .before .before .before .before .before .check-front .ensures) (c .before .before .before .before .before .before .before .before .batch .given .1)) _ _ (c .before .before .before .before .before .decode .ensures) (c .before .before .before .if1 .left) (c .before .content-len .ensures) (c .if2 .left)
 
 pub decode-spec : {M : Type 1} → statement M
 decode-spec =
     tie.close
     (tie.spec
-    check-frame-requires
+    check-front-requires
     enum-known-number
     empty-requires
     enum-known-batch
-    sub-end
-    sub-fill
-    sub-fill-2
-    sub-fill-3
-    part-fill-start
-    part-fill-end
-    content-len-requires
-    fill-requires
+    sub-decode
+    sub-decode-2
+    sub-decode-3
+    part-decode-start
+    part-decode-end
+    decode-requires
     returns
-    returns-2)
+    cast-if2
+    content-len-requires
+    empty-requires-2
+    returns-2
+    returns-3
+    returns-4)

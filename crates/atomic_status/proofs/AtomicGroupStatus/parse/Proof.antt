@@ -1,0 +1,65 @@
+-- `atomic_status::AtomicGroupStatus::parse` meets its contract.
+-- Assumes nothing.
+use borrow.Author.Tests.{not-true, not-false}
+use denote.Ref.{now}
+use Rattle.atomic_status.proofs.Marks.{status-entries, status-command, status-outside, status-delete, status-put}
+use borrow.Author.Needs.{needs}
+use Rattle.atomic_status.proofs.AtomicGroupStatus.parse.Statement.{statement}
+use Rattle.atomic_status.proofs.AtomicGroupStatus.parse.Tie as tie
+
+enum-told : tie.Need-enum-told
+enum-told c = search needs
+
+enum-told-2 : tie.Need-enum-told-2
+enum-told-2 c = search needs
+
+enum-known-content : tie.Need-enum-known-content
+enum-known-content c = search needs
+
+lies-in-requires : tie.Need-lies-in-requires
+lies-in-requires c κs = search needs
+
+outside-requires : tie.Need-outside-requires
+outside-requires c κs = search needs
+
+returns : tie.Need-returns
+returns c = status-outside (c .before .before .before .before .before .before .before .before .args .item) (now (c .before .before .before .before .before .before .before .before .args .store)) (c .before .before .before .before .before .content .given .1) (c .before .before .lies-in .ensures) (not-true _ (c .before .if1 .taken)) (c .outside .ensures)
+
+enum-told-3 : tie.Need-enum-told-3
+enum-told-3 c = search needs
+
+enum-known-op : tie.Need-enum-known-op
+enum-known-op c = search needs
+
+put-status-requires : tie.Need-put-status-requires
+put-status-requires c κs = search needs
+
+returns-2 : tie.Need-returns-2
+returns-2 c = status-entries (c .before .before .before .args .item) (now (c .before .before .before .args .store)) (c .enum-told .given .1)
+
+returns-3 : tie.Need-returns-3
+returns-3 c = status-command (c .before .before .before .args .item) (now (c .before .before .before .args .store)) (c .enum-told2 .given .1)
+
+returns-4 : tie.Need-returns-4
+returns-4 c = status-delete (c .before .before .before .before .before .before .before .before .before .args .item) (now (c .before .before .before .before .before .before .before .before .before .args .store)) (c .before .before .before .before .before .before .content .given .1) (c .before .before .before .lies-in .ensures) (not-false _ (c .before .before .if1 .left)) (c .enum-told3 .given .1)
+
+returns-5 : tie.Need-returns-5
+returns-5 c = status-put (c .before .before .before .before .before .before .before .before .before .before .before .args .item) (now (c .before .before .before .before .before .before .before .before .before .before .before .args .store)) (c .before .before .before .before .before .before .before .before .content .given .1) (c .before .before .before .before .before .lies-in .ensures) (not-false _ (c .before .before .before .before .if1 .left)) (c .before .before .op .given .1) (c .put-status .ensures)
+
+pub parse-spec : {M : Type 1} → statement M
+parse-spec =
+    tie.close
+    (tie.spec
+    enum-told
+    enum-told-2
+    enum-known-content
+    lies-in-requires
+    outside-requires
+    returns
+    enum-told-3
+    enum-known-op
+    put-status-requires
+    returns-2
+    returns-3
+    returns-4
+    returns-5)

@@ -1,0 +1,3 @@
+pub mod RowsRead
+pub mod RowsWritten
+pub mod Determined

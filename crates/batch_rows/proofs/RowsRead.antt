@@ -1,0 +1,54 @@
+-- What reading a whole batch into lent rows comes to: a law for each way out of the code.
+-- Assumes nothing.
+use Prim.Native.Nat.{ℕ, _-_}
+use mathlib.Core.Path.{_≡_, refl, sym, ap, _∙_}
+use mathlib.Core.List.{List}
+use lib.ListN.{take, drop}
+use Rattle.log_item.specs.Got.{got, refused}
+use Rattle.log_item.specs.declared.Form.the-variants.{Any}
+use Rattle.log_item.specs.declared.Span.{Span}
+use Rattle.refusal.specs.declared.Refusal.{Refusal}
+use Rattle.body_check.specs.declared.BodyCheck.{BodyCheck}
+use Rattle.body_check.specs.declared.BodyCheck.the-variants.{Accepted, Refused}
+use Rattle.body_check.specs.declared.Wanted.the-variants.{Exactly}
+use Rattle.body_check.specs.Reading.{readItems}
+use Rattle.body_check.specs.Total.{agreeing}
+use Rattle.rows_reader.specs.Lent.{RowsRead}
+use Rattle.rows_reader.proofs.Reading.{left, same-answer}
+use Rattle.log_batch.specs.declared.LogBatch.{LogBatch}
+use Rattle.batch_rows.specs.declared.BatchCheck.{BatchCheck}
+use Rattle.log_batch.specs.Batch.{sealedBatch}
+use Rattle.batch_rows.specs.Rows.{batchAnswer, bodyPlace, blockPlace, placeIf, BatchRead}
+use Rattle.log_batch.proofs.Frames.{batch-part}
+
+abbrev pub checkAt : BodyCheck → Span → Span → BatchCheck
+checkAt check body block = record { check = check; body = placeIf check body; block = placeIf check block }
+
+-- ---- the places
+
+pub no-places : {c : BodyCheck} {r : Refusal} (body block : Span) → c ≡ Refused r
+    → _≡_ {A = BatchCheck} (record { check = c; body = record { at = 0; len = 0 }; block = record { at = 0; len = 0 } }) (checkAt c body block)
+no-places body block e = rw e
+
+pub both-places : {c : BodyCheck} {m n u q : ℕ} (body block : Span) → c ≡ Accepted m n u q
+    → _≡_ {A = BatchCheck} (record { check = c; body = body; block = block }) (checkAt c body block)
+both-places body block e = rw e
+
+-- ---- the batch
+
+module _ (s : List ℕ) (signature : ℕ) (items entries : List ℕ) where
+  pub rows-refused : {n : ℕ} → sealedBatch s signature 0 ≡ refused n
+      → BatchRead s signature items entries (record { check = Refused (record { number = n; item = 0 }); body = record { at = 0; len = 0 }; block = record { at = 0; len = 0 } }) items entries
+  rows-refused e = record { rows = left items entries (ap (batchAnswer s) e) refl; body = refl; block = refl }
+
+  pub rows-read : {h : LogBatch} {q n : ℕ} {c : BodyCheck} {r : BatchCheck} {later more : List ℕ} → sealedBatch s signature 0 ≡ got h q → n ≡ h .offset - 16 - 4
+      → RowsRead (agreeing (Exactly n) (readItems Any (take (h .len - 4 - h .offset) (drop (h .offset) s)))) items entries c later more
+      → r ≡ checkAt c (record { at = h .offset; len = h .len - h .offset }) (record { at = 16; len = h .offset - 16 })
+      → BatchRead s signature items entries r later more
+  rows-read {h} {q} {n} {c} {r} e k w f =
+      rw f
+      (record {
+        rows = same-answer (ap (batchAnswer s) e ∙ sym (batch-part s signature e k)) w;
+        body = ap (λ g. placeIf c (bodyPlace g)) (sym e);
+        block = ap (λ g. placeIf c (blockPlace g)) (sym e);
+      })

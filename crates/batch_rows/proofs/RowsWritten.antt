@@ -1,0 +1,59 @@
+-- Writing a whole batch from lent rows: where it has a length each row is an item, and it is the batch of their list.
+-- Assumes nothing.
+use Prim.Native.Nat.{ℕ, _-_, _≤_}
+use mathlib.Core.Path.{_≡_, refl, sym, ap, _∙_}
+use mathlib.Core.Bool.{Bool, true, false}
+use mathlib.Core.List.{List}
+use native.Mathlib.Omega.{arith}
+use lib.Dec.{eqb}
+use lib.ListN.{length}
+use borrow.Author.Tests.{eqb-true, eqb-false}
+use Rattle.list_writer.specs.declared.Measured.{Measured}
+use Rattle.list_writer.specs.declared.Encoded.{Encoded}
+use Rattle.list_writer.specs.Bytes.{bodyBytes}
+use Rattle.list_writer.specs.Answers.{measureOf, encodedOf, laid}
+use Rattle.list_writer.specs.Rows.{rowCount, rowItems, entryLengths, measureRows}
+use Rattle.list_writer.proofs.RowsMeasuring.{rows-accepted}
+use Rattle.log_batch.specs.Written.{framed, batchEncoded, FrontWritten}
+use Rattle.batch_rows.specs.Rows.{RowsWritten}
+use Rattle.log_batch.proofs.Planning.{body-small, planned}
+use Rattle.log_batch.proofs.Framing.{begun-told, begun-left, body-behind, batch-stored}
+
+module _ (s : List ℕ) (checked : Bool) (items entries : List ℕ) {m : Measured} (same : m ≡ measureRows s checked items entries) where
+  -- A body that is not refused is short enough for the sums behind it.
+  rows-small : m .length ≤ 4294967295
+  rows-small = go (eqb (m .length) 0) refl
+    where
+      go : (b : Bool) → eqb (m .length) 0 ≡ b → m .length ≤ 4294967295
+      go true h = omega (arith, eqb-true (m .length) 0 h)
+      go false h = body-small s checked (rowItems items) (entryLengths entries) (rows-accepted s checked items entries same (eqb-false (m .length) 0 h) .1)
+
+  module _ (content out : List ℕ) {r : Encoded} {mid : List ℕ} (begun : FrontWritten m (rowCount items) content out r mid) where
+    told : r ≡ batchEncoded m (rowCount items) content (length out)
+    told = begun-told begun rows-small
+
+    answers : r ≡ batchEncoded (measureRows s checked items entries) (rowCount items) content (length out)
+    answers = told ∙ ap (λ (x : Measured). batchEncoded x (rowCount items) content (length out)) same
+
+    pub rows-left : (signature : ℕ) → r .length ≡ 0 → RowsWritten checked items entries s content signature out r mid
+    rows-left signature h =
+        record { answer = answers; written = begun-left begun (framed content (bodyBytes s (rowItems items) (entryLengths entries) signature)) h }
+
+    module _ (h : r .length ≡ 0 → ⊥) where
+      -- what a length that is not 0 tells
+      each : (length (rowItems items) ≡ rowCount items) × (m ≡ measureOf s checked (rowItems items) (entryLengths entries))
+      each = rows-accepted s checked items entries same (planned m (rowCount items) content (length out) told h .some)
+
+      pub rows-behind : m .length ≤ r .length
+      rows-behind = body-behind begun rows-small h
+
+      pub rows-stored : (signature : ℕ) {later : List ℕ} {x : Encoded}
+          → (x ≡ encodedOf (measureRows s checked items entries) mid (r .length - m .length))
+          × (later ≡ laid x mid (r .length - m .length) (bodyBytes s (rowItems items) (entryLengths entries) signature))
+          → RowsWritten checked items entries s content signature out r later
+      rows-stored signature p =
+          let e : measureRows s checked items entries ≡ measureOf s checked (rowItems items) (entryLengths entries) = sym same ∙ each .1 in
+          let w =
+          batch-stored s checked (rowItems items) (entryLengths entries) content out (each .1) (each .0) begun h signature
+          (p .0 ∙ ap (λ (x : Measured). encodedOf x mid (r .length - m .length)) e, p .1) in
+          record { answer = answers; written = w .written }

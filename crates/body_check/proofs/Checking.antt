@@ -1,0 +1,163 @@
+-- What going over the items without a table comes to: a law for each way out of the loop.
+-- Assumes nothing.
+use Prim.Native.Nat.{ℕ, zero, suc, _+_, _-_, _≤_, _<_}
+use mathlib.Core.Path.{_≡_, refl, sym, ap, ap₂, _∙_}
+use mathlib.Core.List.{List, [], _++_}
+use native.Mathlib.Omega.{arith}
+use native.Mathlib.Nat.{add-zero, zero-add}
+use borrow.Author.Tests.{le-leb, lt-leb}
+use lib.ListN.{length, length-append}
+use Rattle.log_item.specs.Got.{Got, got, refused, done, bind}
+use Rattle.log_item.specs.Reading.{Read, number, oneItem}
+use Rattle.log_item.specs.Answers.{Passed, passItem}
+use Rattle.refusal.specs.declared.Refusal.{Refusal}
+use Rattle.log_item.specs.declared.Form.{Form}
+use Rattle.log_item.specs.declared.Form.the-variants.{Plain}
+use Rattle.log_item.specs.declared.LogItem.{LogItem}
+use Rattle.log_item.specs.declared.EntryIndex.{EntryIndex}
+use Rattle.body_check.specs.declared.BodyCheck.{BodyCheck}
+use Rattle.body_check.specs.declared.BodyCheck.the-variants.{Accepted, Refused}
+use Rattle.body_check.specs.Reading.{Answer, accepted, rejected, before, inFront, items, count, readItems}
+use Rattle.body_check.specs.declared.PlainForm.the-variants as plain
+use Rattle.body_check.specs.Body.{readBody}
+use Rattle.seal.specs.Seal.{sealedPart, sealCheck}
+use Rattle.body_check.specs.Answers.{checkOf, plainOf, plainBody}
+use Rattle.seal.proofs.Sealing.{seal-long}
+use Rattle.body_check.proofs.Bodies.{body-refused}
+
+-- ---- the item count
+
+module _ (form : Form) (s : List ℕ) where
+  pub count-broken : {r : ℕ} → number form s 0 ≡ refused r → readItems form s ≡ rejected r 0
+  unfolding readItems count
+  count-broken e = rw e
+
+  pub count-many : {n q : ℕ} → number form s 0 ≡ got n q → 256 < n → readItems form s ≡ rejected 9 0
+  unfolding readItems count
+  count-many e h = rw (e, lt-leb _ _ h)
+
+  pub count-good : {n q : ℕ} → number form s 0 ≡ got n q → n ≤ 256 → readItems form s ≡ items form s n 0 0 0 q
+  unfolding readItems count
+  count-good e h = rw (e, le-leb _ _ h)
+
+-- ---- the items
+
+-- what a body holds, where i items with e entries stand before those of the answer
+abbrev pub onto : ℕ → ℕ → Answer → BodyCheck
+onto i e (accepted xs rows u q) = Accepted (i + length xs) (e + length rows) u q
+onto i e (rejected r k) = Refused (record { number = r; item = k })
+
+pub onto-none : (a : Answer) → onto 0 0 a ≡ checkOf a
+onto-none (accepted xs rows u q) = ap₂ (λ (m n : ℕ). Accepted m n u q) (zero-add (length xs)) (zero-add (length rows))
+onto-none (rejected r k) = refl
+
+onto-before : (i e : ℕ) (x : LogItem) (rows : List EntryIndex) (a : Answer) → onto i e (before x rows a) ≡ onto (i + 1) (e + length rows) a
+onto-before i e x rows (accepted xs more u q) =
+    let m : i + suc (length xs) ≡ i + 1 + length xs = omega arith in
+    let n : e + length (rows ++ more) ≡ e + length rows + length more = omega (arith, length-append rows more) in
+    ap₂ (λ (y z : ℕ). Accepted y z u q) m n
+onto-before i e x rows (rejected r k) = refl
+
+module _ (form : Form) (s : List ℕ) where
+  -- What is still to be read at an item is what the whole comes to.
+  pub record Left (count start i at total used : ℕ) : Type 0 where
+    pub few : i ≤ count
+    pub comes : onto i used (items form s (count - i) i used total at) ≡ checkOf (items form s count 0 0 0 start)
+
+  pub left-start : (count start : ℕ) → Left count start 0 start 0 0
+  left-start count start =
+      let all : count - 0 ≡ count = omega arith in
+      record { few = omega arith; comes = rw all (onto-none (items form s count 0 0 0 start)) }
+
+  module _ (k i e t p : ℕ) where
+    one-more : {x : LogItem} {u m q : ℕ} → passItem form s e t p ≡ got (record { item = x; total = u; used = m }) q
+        → onto i e (items form s (suc k) i e t p) ≡ onto (i + 1) m (items form s k (i + 1) m u q)
+    unfolding items passItem
+    one-more {x} {u} {m} {q} h = go (oneItem form s e t p) h
+      where
+        go : (g : Got Read) → bind {A = Read} {B = Passed} g (λ r. done (record { item = r .item; total = r .total; used = e + length (r .rows) })) ≡ got (record { item = x; total = u; used = m }) q
+            → onto i e (inFront i g (λ r z. items form s k (i + 1) (e + length (r .rows)) (r .total) z)) ≡ onto (i + 1) m (items form s k (i + 1) m u q)
+        go (got r z) f =
+            let y : _≡_ {A = Passed} (record { item = r .item; total = r .total; used = e + length (r .rows) }) (record { item = x; total = u; used = m }) = cc in
+            let place : z ≡ q = cc in
+            let total : r .total ≡ u = ap (λ (a : Passed). a .total) y in
+            let used : e + length (r .rows) ≡ m = ap (λ (a : Passed). a .used) y in
+            onto-before i e (r .item) (r .rows) (items form s k (i + 1) (e + length (r .rows)) (r .total) z) ∙ rw (place, total, used)
+        go (refused r) f = let z : _≡_ {A = ℕ} 0 1 = cc in absurd (omega arith)
+
+    stop : {r : ℕ} → passItem form s e t p ≡ refused r → onto i e (items form s (suc k) i e t p) ≡ Refused (record { number = r; item = i })
+    unfolding items passItem
+    stop {r} h = go (oneItem form s e t p) h
+      where
+        go : (g : Got Read) → bind {A = Read} {B = Passed} g (λ r. done (record { item = r .item; total = r .total; used = e + length (r .rows) })) ≡ refused r
+            → onto i e (inFront i g (λ r z. items form s k (i + 1) (e + length (r .rows)) (r .total) z)) ≡ Refused (record { number = r; item = i })
+        go (got x z) f = let z : _≡_ {A = ℕ} 0 1 = cc in absurd (omega arith)
+        go (refused x) f = let y : x ≡ r = cc in rw y
+
+  items-none : (i e t p : ℕ) → items form s 0 i e t p ≡ accepted [] [] t p
+  unfolding items
+  items-none i e t p = refl
+
+  module _ {count start i at total used : ℕ} (l : Left count start i at total used) where
+    module _ (more : i < count) where
+      rest : count - i ≡ suc (count - (i + 1))
+      rest = omega arith
+
+      pub left-more : {x : LogItem} {u m q : ℕ} → passItem form s used total at ≡ got (record { item = x; total = u; used = m }) q → Left count start (i + 1) q u m
+      left-more h = record { few = omega arith; comes = sym (one-more (count - (i + 1)) i used total at h) ∙ rw (← rest) (l .comes) }
+
+      pub left-refused : {r : ℕ} → passItem form s used total at ≡ refused r → Refused (record { number = r; item = i }) ≡ checkOf (items form s count 0 0 0 start)
+      left-refused h = sym (stop (count - (i + 1)) i used total at h) ∙ rw (← rest) (l .comes)
+
+    pub left-end : count ≤ i → Accepted count used total at ≡ checkOf (items form s count 0 0 0 start)
+    left-end h = sym (ending (count - i) none) ∙ l .comes
+      where
+        none : count - i ≡ 0
+        none = omega arith
+
+        same : i ≡ count
+        same = omega (arith, l .few)
+
+        ending : (k : ℕ) → k ≡ 0 → onto i used (items form s k i used total at) ≡ Accepted count used total at
+        ending k e = rw (e, items-none i used total at) (ap₂ (λ (m n : ℕ). Accepted m n total at) (add-zero i ∙ same) (add-zero used))
+
+-- ---- the plain form, from what the two readings hold
+
+by-refusal : {r : Refusal} (a b : Answer) → Refused r ≡ checkOf a → plain.Refused r ≡ plainOf a b
+by-refusal (accepted xs rows u q) b e = let z : _≡_ {A = ℕ} 0 1 = cc in absurd (omega arith)
+by-refusal (rejected r i) b e = cc
+
+by-yes : {m n u q k l v z : ℕ} (a b : Answer) → Accepted m n u q ≡ checkOf a → Accepted k l v z ≡ checkOf b → plain.Yes ≡ plainOf a b
+by-yes (accepted xs rows u q) (accepted ys more v z) e f = refl
+by-yes (accepted xs rows u q) (rejected r i) e f = let z : _≡_ {A = ℕ} 0 1 = cc in absurd (omega arith)
+by-yes (rejected r i) b e f = let z : _≡_ {A = ℕ} 0 1 = cc in absurd (omega arith)
+
+by-no : {m n u q : ℕ} {r : Refusal} (a b : Answer) → Accepted m n u q ≡ checkOf a → Refused r ≡ checkOf b → plain.No ≡ plainOf a b
+by-no (accepted xs rows u q) (rejected r i) e f = refl
+by-no (accepted xs rows u q) (accepted ys more v z) e f = let z : _≡_ {A = ℕ} 0 1 = cc in absurd (omega arith)
+by-no (rejected r i) b e f = let z : _≡_ {A = ℕ} 0 1 = cc in absurd (omega arith)
+
+module _ (body : List ℕ) (signature : ℕ) where
+  pub plain-refused : {r : Refusal} → Refused r ≡ checkOf (readBody body signature) → plain.Refused r ≡ plainBody body signature
+  unfolding plainBody
+  plain-refused e = by-refusal (readBody body signature) (readItems Plain (sealedPart body)) e
+
+  module _ {m n u q : ℕ} (e : Accepted m n u q ≡ checkOf (readBody body signature)) where
+    pub plain-yes : {k l v z : ℕ} → Accepted k l v z ≡ checkOf (readItems Plain (sealedPart body)) → plain.Yes ≡ plainBody body signature
+    unfolding plainBody
+    plain-yes f = by-yes (readBody body signature) (readItems Plain (sealedPart body)) e f
+
+    pub plain-no : {r : Refusal} → Refused r ≡ checkOf (readItems Plain (sealedPart body)) → plain.No ≡ plainBody body signature
+    unfolding plainBody
+    plain-no f = by-no (readBody body signature) (readItems Plain (sealedPart body)) e f
+
+    -- an accepted body has its footer
+    pub accepted-long : 4 < length body
+    accepted-long = go (sealCheck body signature) refl
+      where
+        go : (k : ℕ) → k ≡ sealCheck body signature → 4 < length body
+        go zero h = seal-long body signature (sym h)
+        go (suc k) h =
+            let some : suc k ≡ 0 → ⊥ = λ z. omega arith in
+            let f = rw (body-refused body signature h some) at e in
+            let z : _≡_ {A = ℕ} 0 1 = cc in absurd (omega arith)

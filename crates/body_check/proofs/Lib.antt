@@ -1,0 +1,4 @@
+pub mod Bodies
+pub mod Checking
+pub mod Refusing
+pub mod Determined

@@ -1,0 +1,58 @@
+-- `body_check::check_from` meets its contract. The loop's invariant, `Left`: what is still to be read comes to what the whole comes to.
+-- Assumes nothing.
+use Prim.Native.Nat.{_-_}
+use Rattle.log_item.specs.Answers.{itemGot}
+use Rattle.log_item.proofs.Fields.{learnt}
+use Rattle.body_check.proofs.Checking.{Left, left-start, left-more, left-refused, left-end}
+use borrow.Author.Needs.{needs}
+use Rattle.body_check.proofs.check_from.Statement.{statement}
+use Rattle.body_check.proofs.check_from.Tie as tie
+
+abbrev Inv-loop : tie.InvT-loop
+Inv-loop buf start count form i₀ at₀ total₀ used₀ i at total used = Left form buf count start i at total used
+
+abbrev μ-loop : tie.MeasureT-loop
+μ-loop buf start count form i₀ at₀ total₀ used₀ i at total used = count - i
+
+loop-holds : tie.Need-loop-holds Inv-loop μ-loop
+loop-holds c = left-start _ _ _ _
+
+decode-form-requires : tie.Need-decode-form-requires Inv-loop μ-loop
+decode-form-requires c κs = search needs
+
+enum-known-next : tie.Need-enum-known-next Inv-loop μ-loop
+enum-known-next c = search needs
+
+add-i : tie.Need-add-i Inv-loop μ-loop
+add-i c = search needs
+
+loop-less : tie.Need-loop-less Inv-loop μ-loop
+loop-less c = search needs
+
+loop-again : tie.Need-loop-again Inv-loop μ-loop
+loop-again c = left-more _ _ (c .before .before .before .before .before .loop .inv) (c .before .before .before .before .loop-test .taken) (learnt itemGot (c .before .before .before .decode-form .ensures) (c .before .next .given .1))
+
+enum-known-number : tie.Need-enum-known-number Inv-loop μ-loop
+enum-known-number c = search needs
+
+returns : tie.Need-returns Inv-loop μ-loop
+returns c = left-refused _ _ (c .before .before .before .before .before .loop .inv) (c .before .before .before .before .loop-test .taken) (learnt itemGot (c .before .before .before .decode-form .ensures) (c .before .number .given .1))
+
+returns-2 : tie.Need-returns-2 Inv-loop μ-loop
+returns-2 c = left-end _ _ (c .before .loop .inv) (c .loop-test .left)
+
+pub check-from-spec : {M : Type 1} → statement M
+check-from-spec =
+    tie.close
+    (tie.spec
+    Inv-loop
+    μ-loop
+    loop-holds
+    decode-form-requires
+    enum-known-next
+    add-i
+    loop-less
+    loop-again
+    enum-known-number
+    returns
+    returns-2)

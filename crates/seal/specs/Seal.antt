@@ -1,0 +1,29 @@
+-- A seal: bytes, and behind them their checksum XOR a signature, little-endian. A body has one, and so has a block that is not empty.
+-- Assumes nothing.
+use Prim.Native.Nat.{ℕ, _-_}
+use mathlib.Core.Bool.{cond}
+use mathlib.Core.List.{List}
+use lib.Bits.{bitXor}
+use lib.Dec.{leb, eqb}
+use lib.ListN.{length, take, drop}
+use Rattle.codec.specs.Word.{littleEndian}
+use Rattle.crc.specs.Crc.{crcOf}
+
+-- what stands before the last four bytes, and the word that these are
+abbrev pub sealedPart : List ℕ → List ℕ
+sealedPart b = take (length b - 4) b
+
+abbrev pub footer : List ℕ → ℕ
+footer b = littleEndian (drop (length b - 4) b)
+
+-- 5 where there are four bytes or fewer, 6 where the checksum is wrong, else 0
+unfoldable pub sealCheck : List ℕ → ℕ → ℕ
+sealCheck b signature = cond (leb (length b) 4) 5 (cond (eqb (footer b) (bitXor (crcOf (sealedPart b)) signature)) 0 6)
+
+-- a block: empty, or content and its unsigned checksum
+unfoldable pub blockCheck : List ℕ → ℕ
+blockCheck b = cond (eqb (length b) 0) 0 (sealCheck b 0)
+
+-- how long the content of a block is
+abbrev pub contentLength : List ℕ → ℕ
+contentLength b = length b - 4
