@@ -10,11 +10,12 @@ use lib.ListN.{length, drop, take-append-drop}
 use borrow.Author.Tests.{le-leb, eqb-false}
 use Rattle.pipe_log.specs.declared.Location.{Location}
 use Rattle.pipe_log.specs.declared.LogQueue.{LogQueue}
-use Rattle.memtable.specs.declared.Table.{Table}
-use Rattle.memtable.specs.declared.Gate.{Gate}
-use Rattle.memtable.specs.declared.Rewritten.{Rewritten}
+use Rattle.location_rules.specs.declared.Table.{Table}
+use Rattle.location_rules.specs.declared.Gate.{Gate}
+use Rattle.location_rules.specs.declared.Rewritten.{Rewritten}
 use Rattle.memtable.specs.Table.{wellFormed}
-use Rattle.memtable.specs.Rewriting.{unchanged, rewriteOf, rowsAfter}
+use Rattle.location_rules.specs.Decisions.{unchanged}
+use Rattle.memtable.specs.Rewriting.{rewriteOf, rowsAfter}
 use Rattle.memtable.proofs.Theorems.{refused-kept}
 use Rattle.location_rows.specs.Words.{isRow, startsWell, rowOf, areRows, rowCount, Rows, rows, broken, rowsOf, queueOf, queueWord, rowWords, rowsWords}
 use Rattle.location_rows.specs.Answers.{inReach, limited, rewriteRows, rowsAfterwards}

@@ -15,15 +15,17 @@ use denote.Triple.Clauses.{AtExit}
 use denote.Triple.Entry.{Args, Res}
 use Rattle.pipe_log.specs.declared.Location.{Location}
 use Rattle.pipe_log.specs.declared.LogQueue.{LogQueue}
-use Rattle.memtable.specs.declared.Table.{Table}
-use Rattle.memtable.specs.declared.Gate.{Gate}
-use Rattle.memtable.specs.declared.Stop.{Stop}
-use Rattle.memtable.specs.declared.Rewritten.{Rewritten}
-use Rattle.memtable.specs.declared.Fetched.{Fetched}
-use Rattle.memtable.specs.Rows.{inAppend, inRewrite, runOf, rowsIn}
+use Rattle.location_rules.specs.declared.Table.{Table}
+use Rattle.location_rules.specs.declared.Gate.{Gate}
+use Rattle.location_rules.specs.declared.Stop.{Stop}
+use Rattle.location_rules.specs.declared.Rewritten.{Rewritten}
+use Rattle.location_rules.specs.declared.Fetched.{Fetched}
+use Rattle.location_rules.specs.Row.{inAppend, inRewrite}
+use Rattle.memtable.specs.Rows.{runOf, rowsIn}
 use Rattle.memtable.specs.Table.{all, wellFormed, ready}
-use Rattle.memtable.specs.Rewriting.{stopOf, startPlace, startFrom, early, countAfter, answered, rewriteOf, rowsAfter}
-use Rattle.memtable.specs.Fetching.{fetched, fetchOf}
+use Rattle.location_rules.specs.Decisions.{stopOf, early, countAfter, answered, fetched}
+use Rattle.memtable.specs.Rewriting.{startPlace, startFrom, rewriteOf, rowsAfter}
+use Rattle.memtable.specs.Fetching.{fetchOf}
 use Rattle.memtable.proofs.rewrite as rw-fn
 use Rattle.memtable.proofs.Queues.{all-take, all-drop}
 use Rattle.memtable.proofs.RunLaws.{run-over}
