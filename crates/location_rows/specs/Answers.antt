@@ -43,6 +43,10 @@ rowsAfterwards (rows xs) t broken first gate words = words
 rowsAfterwards (rows xs) t (rows ys) first gate words =
     cond (inReach (length xs) (length ys)) (rowsWords (rowsAfter xs t ys first gate) ++ drop (length xs * 6) words) words
 
+-- nothing is replaced, and the count and the words are the old ones
+abbrev pub Kept : List ℕ → Table → Rewritten → List ℕ → Type 0
+Kept words t r later = (r .replaced ≡ 0) × ((r .count ≡ t .count) × (later ≡ words))
+
 abbrev pub fetchRows : Rows → Table → ℕ → Fetched
 fetchRows broken t gate = record { number = 26; place = 0; len = 0 }
 fetchRows (rows xs) t gate = limitedFetch (length xs) (fetchOf xs t gate)

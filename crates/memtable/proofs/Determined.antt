@@ -1,23 +1,16 @@
 -- No second answer: two results, and two later contents of what is lent, that meet one contract are equal.
 -- Assumes nothing.
 use mathlib.Core.Path.{_≡_, refl, sym, _∙_}
-use contract.Lifetimes.{Lfts}
 use denote.Ref.{now}
-use denote.Triple.Clauses.{AtExit}
-use denote.Triple.Entry.{Args, Res}
 use Rattle.one_answer.specs.ByHand.{OneAnswerByHand}
-use Rattle.memtable.specs.Rewriting.{rewriteOf, rowsAfter}
+use Rattle.memtable.specs.Rewriting.{Rewrote}
 use Rattle.memtable.specs.Fetching.{fetchOf}
 use Rattle.memtable.proofs.rewrite as rw-fn
 use Rattle.memtable.proofs.fetch_entry_indexes_before as fetch-fn
 
--- what the contract of `rewrite` says of its arguments, its answer and the rows at exit
-abbrev pub Rewrote : (κs : Lfts 2) → Args rw-fn.signature κs → Res rw-fn.signature κs → AtExit rw-fn.ended κs → Type 0
-Rewrote κs a x s = (x ≡ rewriteOf (now (a .0)) (a .1 .0) (now (a .1 .1 .0)) (a .1 .1 .1 .0) (a .1 .1 .1 .1 .0)) × (now (s .0) ≡ rowsAfter (now (a .0)) (a .1 .0) (now (a .1 .1 .0)) (a .1 .1 .1 .0) (a .1 .1 .1 .1 .0))
-
 pub rewrite : OneAnswerByHand rw-fn.ended (λ M 𝓤 H. rw-fn.clauses 𝓤 H) (λ κs x y s t. (x ≡ y) × (now (s .0) ≡ now (t .0)))
 rewrite = record {
-  Post = Rewrote;
+  Post = λ κs a x s. Rewrote (now (a .0)) (a .1 .0) (now (a .1 .1 .0)) (a .1 .1 .1 .0) (a .1 .1 .1 .1 .0) x (now (s .0));
   says = λ 𝓤 H A mem run κs a g x s. refl;
   one = λ κs a x y s t p q. (p .0 ∙ sym (q .0), p .1 ∙ sym (q .1));
 }

@@ -1,6 +1,6 @@
 -- What the fetch before a gate answers.
 -- Assumes nothing.
-use Prim.Native.Nat.{ℕ}
+use Prim.Native.Nat.{ℕ, _+_}
 use mathlib.Core.List.{List}
 use lib.ListN.{drop}
 use Rattle.pipe_log.specs.declared.Location.{Location}
@@ -14,3 +14,7 @@ use Rattle.memtable.specs.Table.{wellFormed}
 -- the longest run of rows starting at the rewritten count with file number at most the gate
 unfoldable pub fetchOf : List Location → Table → ℕ → Fetched
 fetchOf rows t gate = fetched (wellFormed rows t) t (runOf (Stop.Above gate) (drop (t .count) rows))
+
+-- the index at which the fetched run starts
+abbrev pub fetchedAt : List Location → Table → ℕ → ℕ
+fetchedAt rows t gate = t .first + fetchOf rows t gate .place

@@ -1,6 +1,7 @@
 -- What a rewrite of locations answers, and the rows afterwards.
 -- Assumes nothing.
 use Prim.Native.Nat.{ℕ, _-_, min}
+use mathlib.Core.Path.{_≡_}
 use mathlib.Core.List.{List}
 use lib.ListN.{length, take, drop}
 use lib.Seq.{paste}
@@ -34,3 +35,11 @@ rewriteOf rows t incoming first gate =
 -- the rows afterwards: the replaced ones are those incoming at the same indexes
 unfoldable pub rowsAfter : List Location → Table → List Location → ℕ → Gate → List Location
 rowsAfter rows t incoming first gate = paste rows (startPlace t first) (drop (startFrom t first) incoming) (rewriteOf rows t incoming first gate .replaced)
+
+-- the table with its new count
+abbrev pub newTable : List Location → Table → List Location → ℕ → Gate → Table
+newTable rows t incoming first gate = record { first = t .first; count = rewriteOf rows t incoming first gate .count }
+
+-- what the contract of `rewrite` says of its arguments, its answer and the rows at exit
+abbrev pub Rewrote : List Location → Table → List Location → ℕ → Gate → Rewritten → List Location → Type 0
+Rewrote rows t incoming first gate answer after = (answer ≡ rewriteOf rows t incoming first gate) × (after ≡ rowsAfter rows t incoming first gate)
