@@ -7,12 +7,13 @@ use mathlib.Core.Bool.{Bool, true, false, not, _&&_}
 use mathlib.Core.List.{List}
 use lib.ListN.{length, take, drop}
 use borrow.Author.Tests.{le-leb, lt-leb}
-use Rattle.memtable.specs.declared.Table.{Table}
-use Rattle.memtable.specs.declared.Stop.{Stop}
-use Rattle.memtable.specs.declared.Fetched.{Fetched}
+use Rattle.location_rules.specs.declared.Table.{Table}
+use Rattle.location_rules.specs.declared.Stop.{Stop}
+use Rattle.location_rules.specs.declared.Fetched.{Fetched}
 use Rattle.memtable.specs.Rows.{runOf}
 use Rattle.memtable.specs.Table.{wellFormed}
-use Rattle.memtable.specs.Fetching.{fetched, fetchOf}
+use Rattle.location_rules.specs.Decisions.{fetched}
+use Rattle.memtable.specs.Fetching.{fetchOf}
 use Rattle.memtable.proofs.Queues.{both}
 use Rattle.memtable.proofs.Surveys.{fetched-by}
 use Rattle.memtable.proofs.Fetches.{fetched-is}

@@ -8,16 +8,17 @@ use mathlib.Core.List.{List, _++_}
 use lib.ListN.{length, take, drop}
 use lib.Seq.{paste, paste-zero}
 use Rattle.pipe_log.specs.declared.Location.{Location}
-use Rattle.memtable.specs.declared.Table.{Table}
-use Rattle.memtable.specs.declared.Gate.{Gate}
-use Rattle.memtable.specs.declared.Stop.{Stop}
-use Rattle.memtable.specs.declared.Overlap.{Overlap}
-use Rattle.memtable.specs.declared.Rewritten.{Rewritten}
+use Rattle.location_rules.specs.declared.Table.{Table}
+use Rattle.location_rules.specs.declared.Gate.{Gate}
+use Rattle.location_rules.specs.declared.Stop.{Stop}
+use Rattle.location_rules.specs.declared.Overlap.{Overlap}
+use Rattle.location_rules.specs.declared.Rewritten.{Rewritten}
 use Rattle.memtable.specs.Rows.{runOf}
 use Rattle.memtable.specs.Table.{wellFormed, ready}
-use Rattle.memtable.specs.Rewriting.{stopOf, unchanged, answered, rewriteOf, rowsAfter}
-use Rattle.memtable.specs.Parts.{readyBy, overlapOf}
-use Rattle.memtable.proofs.Overlaps.{over-le, over-rows}
+use Rattle.location_rules.specs.Decisions.{stopOf, unchanged, answered}
+use Rattle.memtable.specs.Rewriting.{rewriteOf, rowsAfter}
+use Rattle.location_rules.specs.Parts.{readyBy, overlapOf}
+use Rattle.location_rules.proofs.Overlaps.{over-le, over-rows}
 use Rattle.memtable.proofs.Surveys.{ready-by}
 use Rattle.memtable.proofs.Rewrites.{run-fits, rewritten-by}
 use Rattle.memtable.proofs.Theorems.{refused-kept}

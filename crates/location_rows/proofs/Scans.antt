@@ -12,8 +12,9 @@ use lib.Seq.{drop-drop, getD-drop}
 use borrow.Author.Tests.{le-leb, lt-leb}
 use Rattle.pipe_log.specs.declared.Location.{Location}
 use Rattle.pipe_log.specs.declared.LogQueue.{LogQueue}
-use Rattle.memtable.specs.declared.Stop.{Stop}
-use Rattle.memtable.specs.Rows.{stopsAt, runOf}
+use Rattle.location_rules.specs.declared.Stop.{Stop}
+use Rattle.location_rules.specs.Row.{stopsAt}
+use Rattle.memtable.specs.Rows.{runOf}
 use Rattle.memtable.proofs.Runs.{noRow, run-none, stopped, goes-on}
 use Rattle.location_rows.specs.Words.{queueOf, isRow, rowOf, areRows, rowCount}
 use Rattle.location_rows.specs.Private.{rowStart, located}

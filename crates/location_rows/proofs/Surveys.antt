@@ -7,11 +7,11 @@ use mathlib.Core.Bool.{Bool, true, false}
 use mathlib.Core.List.{List}
 use lib.ListN.{length, take, drop}
 use borrow.Author.Tests.{lt-leb}
-use Rattle.memtable.specs.declared.Table.{Table}
-use Rattle.memtable.specs.declared.Stop.{Stop}
+use Rattle.location_rules.specs.declared.Table.{Table}
+use Rattle.location_rules.specs.declared.Stop.{Stop}
 use Rattle.memtable.specs.Rows.{runOf}
 use Rattle.memtable.specs.Table.{wellFormed}
-use Rattle.memtable.specs.Parts.{wellFormedBy, readyBy}
+use Rattle.location_rules.specs.Parts.{wellFormedBy, readyBy}
 use Rattle.memtable.proofs.Queues.{both}
 use Rattle.memtable.proofs.Surveys.{formed-count, formed-by, ready-by}
 use Rattle.location_rows.specs.Words.{areRows, rowCount}

@@ -10,14 +10,15 @@ use lib.ListN.{length, drop, take-append-drop}
 use borrow.Author.Tests.{le-leb, eqb-false}
 use Rattle.pipe_log.specs.declared.Location.{Location}
 use Rattle.pipe_log.specs.declared.LogQueue.{LogQueue}
-use Rattle.memtable.specs.declared.Table.{Table}
-use Rattle.memtable.specs.declared.Gate.{Gate}
-use Rattle.memtable.specs.declared.Rewritten.{Rewritten}
+use Rattle.location_rules.specs.declared.Table.{Table}
+use Rattle.location_rules.specs.declared.Gate.{Gate}
+use Rattle.location_rules.specs.declared.Rewritten.{Rewritten}
 use Rattle.memtable.specs.Table.{wellFormed}
-use Rattle.memtable.specs.Rewriting.{unchanged, rewriteOf, rowsAfter}
+use Rattle.location_rules.specs.Decisions.{unchanged}
+use Rattle.memtable.specs.Rewriting.{rewriteOf, rowsAfter}
 use Rattle.memtable.proofs.Theorems.{refused-kept}
 use Rattle.location_rows.specs.Words.{isRow, startsWell, rowOf, areRows, rowCount, Rows, rows, broken, rowsOf, queueOf, queueWord, rowWords, rowsWords}
-use Rattle.location_rows.specs.Answers.{inReach, limited, rewriteRows, rowsAfterwards}
+use Rattle.location_rows.specs.Answers.{inReach, limited, rewriteRows, rowsAfterwards, Kept}
 use Rattle.location_rows.specs.Private.{located}
 use Rattle.location_rows.proofs.Rows.{room, rows-back}
 use Rattle.location_rows.proofs.Surveys.{located-length}
@@ -56,15 +57,11 @@ located-rows words xs e = told (areRows (rowCount words) words) refl e
         absurd (omega arith)
 
 module _ (words : List ℕ) (t : Table) (first : ℕ) (gate : Gate) where
-  -- nothing is replaced, and the count and the words are the old ones
-  abbrev pub Kept : Rewritten → List ℕ → Type 0
-  Kept r later = (r .replaced ≡ 0) × ((r .count ≡ t .count) × (later ≡ words))
-
-  kept : (a b : Rows) → rowsOf words ≡ a → (rewriteRows a t b first gate .number ≡ 0 → ⊥) → Kept (rewriteRows a t b first gate) (rowsAfterwards a t b first gate words)
+  kept : (a b : Rows) → rowsOf words ≡ a → (rewriteRows a t b first gate .number ≡ 0 → ⊥) → Kept words t (rewriteRows a t b first gate) (rowsAfterwards a t b first gate words)
   kept broken b e f = (refl, (refl, refl))
   kept (rows xs) broken e f = told (wellFormed xs t)
     where
-      told : (c : Bool) → Kept (cond c (unchanged 27 t) (unchanged 26 t)) words
+      told : (c : Bool) → Kept words t (cond c (unchanged 27 t) (unchanged 26 t)) words
       told true = (refl, (refl, refl))
       told false = (refl, (refl, refl))
   kept (rows xs) (rows ys) e f = told (inReach (length xs) (length ys)) refl
@@ -72,14 +69,14 @@ module _ (words : List ℕ) (t : Table) (first : ℕ) (gate : Gate) where
       r : Rewritten
       r = rewriteOf xs t ys first gate
 
-      told : (c : Bool) → inReach (length xs) (length ys) ≡ c → Kept (limited (length xs) (length ys) t r) (cond c (rowsWords (rowsAfter xs t ys first gate) ++ drop (length xs * 6) words) words)
+      told : (c : Bool) → inReach (length xs) (length ys) ≡ c → Kept words t (limited (length xs) (length ys) t r) (cond c (rowsWords (rowsAfter xs t ys first gate) ++ drop (length xs * 6) words) words)
       told true h =
           let same : limited (length xs) (length ys) t r ≡ r = limited-in (length xs) (length ys) t r h in
           let k = refused-kept xs t ys first gate (rw same at f) in
           rw same (k .0, (k .1 .0, ap (λ (v : List Location). rowsWords v ++ drop (length xs * 6) words) (k .1 .1) ∙ located-rows words xs e))
       told false h = outside (eqb (r .number) 0) refl
         where
-          outside : (c : Bool) → eqb (r .number) 0 ≡ c → Kept (limited (length xs) (length ys) t r) words
+          outside : (c : Bool) → eqb (r .number) 0 ≡ c → Kept words t (limited (length xs) (length ys) t r) words
           outside true i = rw (limited-21 (length xs) (length ys) t r h i) (refl, (refl, refl))
           outside false i =
               let k = refused-kept xs t ys first gate (eqb-false (r .number) 0 i) in
@@ -87,5 +84,5 @@ module _ (words : List ℕ) (t : Table) (first : ℕ) (gate : Gate) where
 
   -- A refused rewrite changes no word, and answers 0 and the old count.
   pub refused-words : (incoming : List ℕ) → (rewriteRows (rowsOf words) t (rowsOf incoming) first gate .number ≡ 0 → ⊥)
-      → Kept (rewriteRows (rowsOf words) t (rowsOf incoming) first gate) (rowsAfterwards (rowsOf words) t (rowsOf incoming) first gate words)
+      → Kept words t (rewriteRows (rowsOf words) t (rowsOf incoming) first gate) (rowsAfterwards (rowsOf words) t (rowsOf incoming) first gate words)
   refused-words incoming = kept (rowsOf words) (rowsOf incoming) refl

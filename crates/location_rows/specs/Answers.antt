@@ -6,12 +6,13 @@ use mathlib.Core.Bool.{Bool, not, cond, _&&_}
 use mathlib.Core.List.{List, _++_}
 use lib.Dec.{leb, eqb}
 use lib.ListN.{length, drop}
-use Rattle.memtable.specs.declared.Table.{Table}
-use Rattle.memtable.specs.declared.Gate.{Gate}
-use Rattle.memtable.specs.declared.Rewritten.{Rewritten}
-use Rattle.memtable.specs.declared.Fetched.{Fetched}
+use Rattle.location_rules.specs.declared.Table.{Table}
+use Rattle.location_rules.specs.declared.Gate.{Gate}
+use Rattle.location_rules.specs.declared.Rewritten.{Rewritten}
+use Rattle.location_rules.specs.declared.Fetched.{Fetched}
 use Rattle.memtable.specs.Table.{wellFormed}
-use Rattle.memtable.specs.Rewriting.{unchanged, rewriteOf, rowsAfter}
+use Rattle.location_rules.specs.Decisions.{unchanged}
+use Rattle.memtable.specs.Rewriting.{rewriteOf, rowsAfter}
 use Rattle.memtable.specs.Fetching.{fetchOf}
 use Rattle.location_rows.specs.Words.{Rows, rows, broken, rowsOf, rowsWords}
 
@@ -41,6 +42,10 @@ rowsAfterwards broken t incoming first gate words = words
 rowsAfterwards (rows xs) t broken first gate words = words
 rowsAfterwards (rows xs) t (rows ys) first gate words =
     cond (inReach (length xs) (length ys)) (rowsWords (rowsAfter xs t ys first gate) ++ drop (length xs * 6) words) words
+
+-- nothing is replaced, and the count and the words are the old ones
+abbrev pub Kept : List ℕ → Table → Rewritten → List ℕ → Type 0
+Kept words t r later = (r .replaced ≡ 0) × ((r .count ≡ t .count) × (later ≡ words))
 
 abbrev pub fetchRows : Rows → Table → ℕ → Fetched
 fetchRows broken t gate = record { number = 26; place = 0; len = 0 }

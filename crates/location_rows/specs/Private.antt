@@ -4,7 +4,7 @@ use Prim.Native.Nat.{ℕ}
 use mathlib.Core.Bool.{Bool, _&&_}
 use mathlib.Core.List.{List}
 use Rattle.pipe_log.specs.declared.Location.{Location}
-use Rattle.memtable.specs.declared.Table.{Table}
+use Rattle.location_rules.specs.declared.Table.{Table}
 use Rattle.memtable.specs.Table.{wellFormed, ready}
 use Rattle.location_rows.specs.Words.{queueOf, rowCount, areRows, locations}
 

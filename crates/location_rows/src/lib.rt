@@ -4,15 +4,16 @@ ghost use mathlib.Core.Path.{_≡_};
 ghost use Prim.Native.Nat.{_+_, _-_, _≤_};
 ghost use lib.ListN.{length, take, drop};
 ghost use lib.Seq.{paste};
-ghost use Rattle.memtable.specs.Rows.{stopsAt, runOf};
+ghost use Rattle.location_rules.specs.Row.{stopsAt};
+ghost use Rattle.memtable.specs.Rows.{runOf};
 ghost use Rattle.location_rows.specs.Words.{rowCount, queueOf, isRow, areRows};
 ghost use Rattle.location_rows.specs.Answers.{tableOf, limited, RowsRewritten, fetchWords};
 ghost use Rattle.location_rows.specs.Private.{rowStart, located, formedWords, readyWords};
-use memtable::Fetched;
-use memtable::Gate;
-use memtable::Rewritten;
-use memtable::Stop;
-use memtable::Table;
+use location_rules::Fetched;
+use location_rules::Gate;
+use location_rules::Rewritten;
+use location_rules::Stop;
+use location_rules::Table;
 use pipe_log::Location;
 use pipe_log::LogQueue;
 
@@ -36,10 +37,10 @@ pub fn rewrite(
     let m = incoming.len() / 6;
     let good = is_well_formed(table, t);
     let ready = is_ready(incoming, incoming_first);
-    let over = memtable::overlap_of(first_index, n, incoming_first, m);
-    let stop = memtable::stop_of(gate);
+    let over = location_rules::overlap_of(first_index, n, incoming_first, m);
+    let stop = location_rules::stop_of(gate);
     let end = scan(table, over.start, over.end, stop);
-    let decided = memtable::decide(good, ready, t, over, end, gate);
+    let decided = location_rules::decide(good, ready, t, over, end, gate);
     let answer = limit(n, m, t, decided);
     replace(
         table,
@@ -62,7 +63,7 @@ pub fn fetch(table: &[u64], first_index: u64, rewritten: u64, gate: u64) -> Fetc
     let n = table.len() / 6;
     let count = t.count;
     if !is_well_formed(table, t) {
-        return memtable::run_from(false, t, 0, 0);
+        return location_rules::run_from(false, t, 0, 0);
     }
     if 64 < n {
         return Fetched {
@@ -72,7 +73,7 @@ pub fn fetch(table: &[u64], first_index: u64, rewritten: u64, gate: u64) -> Fetc
         };
     }
     let end = scan(table, count, n, Stop::Above(gate));
-    memtable::run_from(true, t, count, end)
+    location_rules::run_from(true, t, count, end)
 }
 
 // Whether each row is a location's, and the table is well formed.
@@ -89,7 +90,7 @@ fn is_well_formed(words: &[u64], table: Table) -> bool
     }
     let front = scan(words, 0, count, Stop::Append);
     let back = scan(words, count, n, Stop::Rewrite);
-    memtable::is_formed(table, n, front, back)
+    location_rules::is_formed(table, n, front, back)
 }
 
 // Whether each incoming row is a location's, and they are taken.
@@ -101,7 +102,7 @@ fn is_ready(words: &[u64], first: u64) -> bool
         return false;
     }
     let last = scan(words, 0, n, Stop::Append);
-    memtable::is_ready(last, n, first)
+    location_rules::is_ready(last, n, first)
 }
 
 // Whether each row is a location's.
@@ -160,7 +161,7 @@ fn stops(queue: u64, seq: u64, stop: Stop) -> bool
         entry_offset: 0,
         entry_len: 0,
     };
-    memtable::stops(row, stop)
+    location_rules::stops(row, stop)
 }
 
 fn queue_of(queue: u64) -> LogQueue

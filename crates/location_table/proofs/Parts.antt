@@ -12,11 +12,12 @@ use borrow.Author.Tests.{le-leb, lt-leb, leb-true}
 use denote.Slice.{Room}
 use Rattle.pipe_log.specs.declared.Location.{Location}
 use Rattle.pipe_log.proofs.Location as T
-use Rattle.memtable.specs.declared.Table.{Table}
-use Rattle.memtable.specs.declared.Gate.{Gate}
-use Rattle.memtable.specs.declared.Rewritten.{Rewritten}
-use Rattle.memtable.specs.declared.Fetched.{Fetched}
-use Rattle.memtable.specs.Rewriting.{unchanged, rewriteOf, rowsAfter}
+use Rattle.location_rules.specs.declared.Table.{Table}
+use Rattle.location_rules.specs.declared.Gate.{Gate}
+use Rattle.location_rules.specs.declared.Rewritten.{Rewritten}
+use Rattle.location_rules.specs.declared.Fetched.{Fetched}
+use Rattle.location_rules.specs.Decisions.{unchanged}
+use Rattle.memtable.specs.Rewriting.{rewriteOf, rowsAfter}
 use Rattle.memtable.specs.Fetching.{fetchOf}
 use Rattle.location_table.specs.Values.{inReach, rowsUsed, answerOf, fetchedOf, rewriteValue, rowsValue, fetchValue}
 

@@ -2,10 +2,10 @@
 // arrays to memtable's function of the same name.
 ghost use mathlib.Core.Path.{_≡_};
 ghost use Rattle.location_table.specs.Values.{rowsUsed, rewriteValue, rowsValue, fetchValue, answerOf, fetchedOf};
-use memtable::Fetched;
-use memtable::Gate;
-use memtable::Rewritten;
-use memtable::Table;
+use location_rules::Fetched;
+use location_rules::Gate;
+use location_rules::Rewritten;
+use location_rules::Table;
 use pipe_log::Location;
 
 // The rows after a rewrite of the first `len` rows by the first `count` incoming ones. More than 64 of either: as they were.

@@ -9,15 +9,17 @@ use lib.Dec.{eqb}
 use lib.ListN.{length, drop, length-drop}
 use borrow.Author.Tests.{le-ltb, eq-eqb, ne-eqb, eqb-true, eqb-false}
 use Rattle.pipe_log.specs.declared.Location.{Location}
-use Rattle.memtable.specs.declared.Table.{Table}
-use Rattle.memtable.specs.declared.Gate.{Gate}
-use Rattle.memtable.specs.declared.Stop.{Stop}
-use Rattle.memtable.specs.declared.Rewritten.{Rewritten}
-use Rattle.memtable.specs.declared.Fetched.{Fetched}
-use Rattle.memtable.specs.Rows.{inRewrite, runOf}
+use Rattle.location_rules.specs.declared.Table.{Table}
+use Rattle.location_rules.specs.declared.Gate.{Gate}
+use Rattle.location_rules.specs.declared.Stop.{Stop}
+use Rattle.location_rules.specs.declared.Rewritten.{Rewritten}
+use Rattle.location_rules.specs.declared.Fetched.{Fetched}
+use Rattle.location_rules.specs.Row.{inRewrite}
+use Rattle.memtable.specs.Rows.{runOf}
 use Rattle.memtable.specs.Table.{all, wellFormed, ready}
-use Rattle.memtable.specs.Rewriting.{startPlace, startFrom, overlapLength, runLength, unchanged, answered, rewriteOf}
-use Rattle.memtable.specs.Fetching.{fetched, fetchOf}
+use Rattle.location_rules.specs.Decisions.{unchanged, answered, fetched}
+use Rattle.memtable.specs.Rewriting.{startPlace, startFrom, overlapLength, runLength, rewriteOf}
+use Rattle.memtable.specs.Fetching.{fetchOf}
 use Rattle.memtable.proofs.RunLaws.{run-le, run-whole}
 use Rattle.memtable.proofs.Surveys.{formed-count}
 use Rattle.memtable.proofs.Tables.{formed-parts, ready-of}

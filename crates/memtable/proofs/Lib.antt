@@ -3,10 +3,7 @@ pub mod Machine
 pub mod Queues
 pub mod Runs
 pub mod RunLaws
-pub mod Forming
 pub mod Surveys
-pub mod Overlaps
-pub mod Deciding
 pub mod Rewrites
 pub mod Pasting
 pub mod Outcomes

@@ -10,11 +10,12 @@ use lib.ListN.{length, drop, length-drop}
 use lib.Seq.{paste}
 use borrow.Author.Tests.{not-false, eqb-false, ltb-false, leb-true, leb-false}
 use Rattle.pipe_log.specs.declared.Location.{Location}
-use Rattle.memtable.specs.declared.Table.{Table}
-use Rattle.memtable.specs.declared.Gate.{Gate}
-use Rattle.memtable.specs.declared.Rewritten.{Rewritten}
+use Rattle.location_rules.specs.declared.Table.{Table}
+use Rattle.location_rules.specs.declared.Gate.{Gate}
+use Rattle.location_rules.specs.declared.Rewritten.{Rewritten}
 use Rattle.memtable.specs.Table.{wellFormed, ready}
-use Rattle.memtable.specs.Rewriting.{stopOf, startPlace, startFrom, overlapLength, runLength, early, countAfter, unchanged, answered, rewriteOf, rowsAfter}
+use Rattle.location_rules.specs.Decisions.{stopOf, early, countAfter, unchanged, answered}
+use Rattle.memtable.specs.Rewriting.{startPlace, startFrom, overlapLength, runLength, rewriteOf, rowsAfter}
 use Rattle.memtable.proofs.RunLaws.{run-take-le}
 
 pub data Outcome (good isReady : Bool) (t : Table) (place overlap run : ℕ) (gate : Gate) : Rewritten → Type 0 where

@@ -8,7 +8,8 @@ use mathlib.Core.List.{List, _++_}
 use lib.ListN.{length, take, drop, length-drop, take-append-drop}
 use lib.Seq.{paste, length-paste, take-paste, drop-paste, take-add, drop-drop, take-append-le, take-take, length-take-le}
 use Rattle.pipe_log.specs.declared.Location.{Location}
-use Rattle.memtable.specs.Rows.{inAppend, inRewrite, rowsIn}
+use Rattle.location_rules.specs.Row.{inAppend, inRewrite}
+use Rattle.memtable.specs.Rows.{rowsIn}
 use Rattle.memtable.specs.Table.{all}
 use Rattle.memtable.proofs.Queues.{all-join, rowsIn-join, rowsIn-all, none-rewrite, none-append}
 

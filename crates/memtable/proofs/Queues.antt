@@ -9,7 +9,8 @@ use mathlib.Core.List.{List, [], _∷_, _++_}
 use lib.ListN.{length, take, drop, take-append-drop}
 use Rattle.pipe_log.specs.declared.Location.{Location}
 use Rattle.pipe_log.specs.declared.LogQueue.{LogQueue}
-use Rattle.memtable.specs.Rows.{isAppend, isRewrite, inAppend, inRewrite, rowsIn}
+use Rattle.location_rules.specs.Row.{isAppend, isRewrite, inAppend, inRewrite}
+use Rattle.memtable.specs.Rows.{rowsIn}
 use Rattle.memtable.specs.Table.{all}
 
 -- a conjunction, taken apart and put together

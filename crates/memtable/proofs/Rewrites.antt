@@ -11,16 +11,17 @@ use lib.ListN.{length, take, drop}
 use lib.Seq.{paste, paste-zero}
 use borrow.Author.Tests.{eq-eqb, ne-eqb, eqb-true, eqb-false}
 use Rattle.pipe_log.specs.declared.Location.{Location}
-use Rattle.memtable.specs.declared.Table.{Table}
-use Rattle.memtable.specs.declared.Gate.{Gate}
-use Rattle.memtable.specs.declared.Stop.{Stop}
-use Rattle.memtable.specs.declared.Overlap.{Overlap}
-use Rattle.memtable.specs.declared.Rewritten.{Rewritten}
+use Rattle.location_rules.specs.declared.Table.{Table}
+use Rattle.location_rules.specs.declared.Gate.{Gate}
+use Rattle.location_rules.specs.declared.Stop.{Stop}
+use Rattle.location_rules.specs.declared.Overlap.{Overlap}
+use Rattle.location_rules.specs.declared.Rewritten.{Rewritten}
 use Rattle.memtable.specs.Rows.{runOf}
 use Rattle.memtable.specs.Table.{wellFormed, ready}
-use Rattle.memtable.specs.Rewriting.{stopOf, startPlace, startFrom, overlapLength, runLength, early, answered, rewriteOf, rowsAfter}
-use Rattle.memtable.specs.Parts.{readyBy, overlapAt, overlapOf}
-use Rattle.memtable.proofs.Overlaps.{over-le, over-rows, over-incoming}
+use Rattle.location_rules.specs.Decisions.{stopOf, early, answered}
+use Rattle.memtable.specs.Rewriting.{startPlace, startFrom, overlapLength, runLength, rewriteOf, rowsAfter}
+use Rattle.location_rules.specs.Parts.{readyBy, overlapAt, overlapOf}
+use Rattle.location_rules.proofs.Overlaps.{over-le, over-rows, over-incoming}
 use Rattle.memtable.proofs.RunLaws.{run-take-le}
 use Rattle.memtable.proofs.Surveys.{ready-by}
 

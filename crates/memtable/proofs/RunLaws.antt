@@ -8,8 +8,9 @@ use mathlib.Core.Bool.{Bool, true, false, cond}
 use mathlib.Core.List.{List, [], _∷_}
 use lib.ListN.{length, getD, take, drop, length-take}
 use Rattle.pipe_log.specs.declared.Location.{Location}
-use Rattle.memtable.specs.declared.Stop.{Stop}
-use Rattle.memtable.specs.Rows.{inAppend, stopsAt, runOf}
+use Rattle.location_rules.specs.declared.Stop.{Stop}
+use Rattle.location_rules.specs.Row.{inAppend, stopsAt}
+use Rattle.memtable.specs.Rows.{runOf}
 use Rattle.memtable.specs.Table.{all}
 use Rattle.memtable.proofs.Queues.{both}
 

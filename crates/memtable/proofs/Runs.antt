@@ -9,8 +9,9 @@ use lib.ListN.{length, getD, take, drop}
 use lib.Seq.{drop-cons}
 use Rattle.pipe_log.specs.declared.Location.{Location}
 use Rattle.pipe_log.specs.declared.LogQueue.{LogQueue}
-use Rattle.memtable.specs.declared.Stop.{Stop}
-use Rattle.memtable.specs.Rows.{stopsAt, runOf}
+use Rattle.location_rules.specs.declared.Stop.{Stop}
+use Rattle.location_rules.specs.Row.{stopsAt}
+use Rattle.memtable.specs.Rows.{runOf}
 
 -- what `getD` gives past the end, where nothing asks for it
 abbrev pub noRow : Location

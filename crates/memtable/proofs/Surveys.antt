@@ -12,13 +12,15 @@ use lib.Seq.{take-all, length-take-le}
 use borrow.Author.Tests.{le-leb, lt-leb, leb-true, leb-false}
 use Rattle.pipe_log.specs.declared.Location.{Location}
 use Rattle.pipe_log.specs.declared.LogQueue.{LogQueue}
-use Rattle.memtable.specs.declared.Table.{Table}
-use Rattle.memtable.specs.declared.Stop.{Stop}
-use Rattle.memtable.specs.Rows.{isAppend, isRewrite, inAppend, inRewrite, runOf}
+use Rattle.location_rules.specs.declared.Table.{Table}
+use Rattle.location_rules.specs.declared.Stop.{Stop}
+use Rattle.location_rules.specs.Row.{isAppend, isRewrite, inAppend, inRewrite}
+use Rattle.memtable.specs.Rows.{runOf}
 use Rattle.memtable.specs.Table.{all, wellFormed, ready}
-use Rattle.memtable.specs.declared.Fetched.{Fetched}
-use Rattle.memtable.specs.Fetching.{fetched, fetchOf}
-use Rattle.memtable.specs.Parts.{wellFormedBy, readyBy}
+use Rattle.location_rules.specs.declared.Fetched.{Fetched}
+use Rattle.location_rules.specs.Decisions.{fetched}
+use Rattle.memtable.specs.Fetching.{fetchOf}
+use Rattle.location_rules.specs.Parts.{wellFormedBy, readyBy}
 use Rattle.memtable.proofs.Queues.{both}
 
 -- the count of a well-formed table is within its rows

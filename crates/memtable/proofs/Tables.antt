@@ -10,10 +10,12 @@ use lib.ListN.{length, take, drop}
 use lib.Seq.{take-add, drop-drop}
 use borrow.Author.Tests.{leb-true, le-leb}
 use Rattle.pipe_log.specs.declared.Location.{Location}
-use Rattle.memtable.specs.declared.Table.{Table}
-use Rattle.memtable.specs.declared.Stop.{Stop}
-use Rattle.memtable.specs.Rows.{inAppend, inRewrite, runOf}
-use Rattle.memtable.specs.Table.{all, indexesFit, wellFormed, ready}
+use Rattle.location_rules.specs.declared.Table.{Table}
+use Rattle.location_rules.specs.declared.Stop.{Stop}
+use Rattle.location_rules.specs.Row.{inAppend, inRewrite}
+use Rattle.memtable.specs.Rows.{runOf}
+use Rattle.location_rules.specs.Parts.{indexesFit}
+use Rattle.memtable.specs.Table.{all, wellFormed, ready}
 use Rattle.memtable.proofs.Queues.{both, together, all-right}
 use Rattle.memtable.proofs.RunLaws.{run-part, run-front}
 

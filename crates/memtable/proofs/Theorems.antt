@@ -15,15 +15,18 @@ use denote.Triple.Clauses.{AtExit}
 use denote.Triple.Entry.{Args, Res}
 use Rattle.pipe_log.specs.declared.Location.{Location}
 use Rattle.pipe_log.specs.declared.LogQueue.{LogQueue}
-use Rattle.memtable.specs.declared.Table.{Table}
-use Rattle.memtable.specs.declared.Gate.{Gate}
-use Rattle.memtable.specs.declared.Stop.{Stop}
-use Rattle.memtable.specs.declared.Rewritten.{Rewritten}
-use Rattle.memtable.specs.declared.Fetched.{Fetched}
-use Rattle.memtable.specs.Rows.{inAppend, inRewrite, runOf, rowsIn}
+use Rattle.location_rules.specs.declared.Table.{Table}
+use Rattle.location_rules.specs.declared.Gate.{Gate}
+use Rattle.location_rules.specs.declared.Stop.{Stop}
+use Rattle.location_rules.specs.declared.Rewritten.{Rewritten}
+use Rattle.location_rules.specs.declared.Fetched.{Fetched}
+use Rattle.location_rules.specs.Row.{inAppend, inRewrite}
+use Rattle.memtable.specs.Rows.{runOf, rowsIn}
 use Rattle.memtable.specs.Table.{all, wellFormed, ready}
-use Rattle.memtable.specs.Rewriting.{stopOf, startPlace, startFrom, early, countAfter, answered, rewriteOf, rowsAfter}
-use Rattle.memtable.specs.Fetching.{fetched, fetchOf}
+use Rattle.location_rules.specs.Decisions.{stopOf, early, countAfter, answered, fetched}
+use Rattle.memtable.specs.Rewriting.{startPlace, startFrom, rewriteOf, rowsAfter, newTable, Rewrote}
+use Rattle.memtable.specs.Fetching.{fetchOf, fetchedAt}
+use Rattle.memtable.specs.Examples.{row, last, Appended, Incoming}
 use Rattle.memtable.proofs.rewrite as rw-fn
 use Rattle.memtable.proofs.Queues.{all-take, all-drop}
 use Rattle.memtable.proofs.RunLaws.{run-over}
@@ -32,7 +35,6 @@ use Rattle.memtable.proofs.Tables.{formed-parts, formed-of, ready-all, 
 use Rattle.memtable.proofs.Fetches.{fetched-is, fetched-formed, whole-run}
 use Rattle.memtable.proofs.Pasting.{before-same, behind-same, length-same, rewrite-front, append-back, append-falls, rewrite-rises}
 use Rattle.memtable.proofs.Outcomes.{kept, done, place, source, overlap, run, Outcomes, outcome, after-is, run-in-rows, run-in-source}
-use Rattle.memtable.proofs.Determined.{Rewrote}
 
 -- "An empty table is well formed for any first index when its count is 0."
 pub empty-formed : (first : ℕ) → first < 2 ^ 64 → wellFormed [] (record { first = first; count = 0 }) ≡ true
@@ -43,16 +45,6 @@ pub none-ready : (first : ℕ) → first < 2 ^ 64 → ready [] first ≡ true
 none-ready first l = ready-of [] first refl (omega (arith, l))
 
 module _ (rows : List Location) (t : Table) (incoming : List Location) (first : ℕ) (gate : Gate) where
-  abbrev pub answer : Rewritten
-  answer = rewriteOf rows t incoming first gate
-
-  abbrev pub after : List Location
-  after = rowsAfter rows t incoming first gate
-
-  -- the table with its new count
-  abbrev pub newTable : Table
-  newTable = record { first = t .first; count = answer .count }
-
   abbrev p : ℕ
   p = place rows t incoming first gate
 
@@ -68,39 +60,39 @@ module _ (rows : List Location) (t : Table) (incoming : List Location) (first : 
   same-index = omega arith
 
   -- "Total rows never change."
-  pub total-kept : length after ≡ length rows
-  total-kept = ap length (after-is rows t incoming first gate) ∙ told answer (outcome rows t incoming first gate)
+  pub total-kept : length (rowsAfter rows t incoming first gate) ≡ length rows
+  total-kept = ap length (after-is rows t incoming first gate) ∙ told (rewriteOf rows t incoming first gate) (outcome rows t incoming first gate)
     where
       told : (r : Rewritten) → Outcomes rows t incoming first gate r → length (paste rows p src (r .replaced)) ≡ length rows
       told _ (kept number) = ap length (sym same)
       told _ (done g h o l e) = length-same rows p src (run rows t incoming first gate) (run-in-rows rows t incoming first gate o) (run-in-source rows t incoming first gate)
 
   -- "A refused one holds 0 and the old count", and lent memory is unchanged.
-  pub refused-kept : (answer .number ≡ 0 → ⊥) → (answer .replaced ≡ 0) × ((answer .count ≡ t .count) × (after ≡ rows))
-  refused-kept z = let k : (answer .replaced ≡ 0) × (answer .count ≡ t .count) = told answer (outcome rows t incoming first gate) z in (k .0, (k .1, after-is rows t incoming first gate ∙ ap (paste rows p src) (k .0) ∙ sym same))
+  pub refused-kept : (rewriteOf rows t incoming first gate .number ≡ 0 → ⊥) → (rewriteOf rows t incoming first gate .replaced ≡ 0) × ((rewriteOf rows t incoming first gate .count ≡ t .count) × (rowsAfter rows t incoming first gate ≡ rows))
+  refused-kept z = let k : (rewriteOf rows t incoming first gate .replaced ≡ 0) × (rewriteOf rows t incoming first gate .count ≡ t .count) = told (rewriteOf rows t incoming first gate) (outcome rows t incoming first gate) z in (k .0, (k .1, after-is rows t incoming first gate ∙ ap (paste rows p src) (k .0) ∙ sym same))
     where
       told : (r : Rewritten) → Outcomes rows t incoming first gate r → (r .number ≡ 0 → ⊥) → (r .replaced ≡ 0) × (r .count ≡ t .count)
       told _ (kept number) z = (refl, refl)
       told _ (done g h o l e) z = absurd (z refl)
 
   -- Rows outside the replaced run are as they were.
-  pub rows-before-kept : take (startPlace t first) after ≡ take (startPlace t first) rows
-  rows-before-kept = ap (take p) (after-is rows t incoming first gate) ∙ told answer (outcome rows t incoming first gate)
+  pub rows-before-kept : take (startPlace t first) (rowsAfter rows t incoming first gate) ≡ take (startPlace t first) rows
+  rows-before-kept = ap (take p) (after-is rows t incoming first gate) ∙ told (rewriteOf rows t incoming first gate) (outcome rows t incoming first gate)
     where
       told : (r : Rewritten) → Outcomes rows t incoming first gate r → take p (paste rows p src (r .replaced)) ≡ take p rows
       told _ (kept number) = ap (take p) (sym same)
       told _ (done g h o l e) = before-same rows p src (run rows t incoming first gate) (run-in-rows rows t incoming first gate o) (run-in-source rows t incoming first gate)
 
-  pub rows-behind-kept : drop (startPlace t first + answer .replaced) after ≡ drop (startPlace t first + answer .replaced) rows
-  rows-behind-kept = ap (drop (p + answer .replaced)) (after-is rows t incoming first gate) ∙ told answer (outcome rows t incoming first gate)
+  pub rows-behind-kept : drop (startPlace t first + rewriteOf rows t incoming first gate .replaced) (rowsAfter rows t incoming first gate) ≡ drop (startPlace t first + rewriteOf rows t incoming first gate .replaced) rows
+  rows-behind-kept = ap (drop (p + rewriteOf rows t incoming first gate .replaced)) (after-is rows t incoming first gate) ∙ told (rewriteOf rows t incoming first gate) (outcome rows t incoming first gate)
     where
       told : (r : Rewritten) → Outcomes rows t incoming first gate r → drop (p + r .replaced) (paste rows p src (r .replaced)) ≡ drop (p + r .replaced) rows
       told _ (kept number) = ap (drop (p + 0)) (sym same)
       told _ (done g h o l e) = behind-same rows p src (run rows t incoming first gate) (run-in-rows rows t incoming first gate o) (run-in-source rows t incoming first gate)
 
   -- A rewrite leaves a well-formed table well formed, with its new count.
-  pub formed-stays : wellFormed rows t ≡ true → wellFormed after newTable ≡ true
-  formed-stays f = ap (λ (l : List Location). wellFormed l newTable) (after-is rows t incoming first gate) ∙ told answer (outcome rows t incoming first gate)
+  pub formed-stays : wellFormed rows t ≡ true → wellFormed (rowsAfter rows t incoming first gate) (newTable rows t incoming first gate) ≡ true
+  formed-stays f = ap (λ (l : List Location). wellFormed l (newTable rows t incoming first gate)) (after-is rows t incoming first gate) ∙ told (rewriteOf rows t incoming first gate) (outcome rows t incoming first gate)
     where
       parts : (all inRewrite (take (t .count) rows) ≡ true) × ((all inAppend (drop (t .count) rows) ≡ true) × (t .first + length rows ≤ 18446744073709551616))
       parts = formed-parts rows t f
@@ -153,8 +145,8 @@ module _ (rows : List Location) (t : Table) (incoming : List Location) (first : 
               late = ltb-false p (t .count) (ap (λ (x : Gate). early x p (t .count)) (sym z) ∙ e)
 
   -- "With a gate, append rows fall and rewrite rows rise by that number."
-  pub rows-move : (n : ℕ) → gate ≡ Gate.Given n → (rowsIn inAppend rows ≡ rowsIn inAppend after + answer .replaced) × (rowsIn inRewrite after ≡ rowsIn inRewrite rows + answer .replaced)
-  rows-move n z = rw (after-is rows t incoming first gate) (told answer (outcome rows t incoming first gate))
+  pub rows-move : (n : ℕ) → gate ≡ Gate.Given n → (rowsIn inAppend rows ≡ rowsIn inAppend (rowsAfter rows t incoming first gate) + rewriteOf rows t incoming first gate .replaced) × (rowsIn inRewrite (rowsAfter rows t incoming first gate) ≡ rowsIn inRewrite rows + rewriteOf rows t incoming first gate .replaced)
+  rows-move n z = rw (after-is rows t incoming first gate) (told (rewriteOf rows t incoming first gate) (outcome rows t incoming first gate))
     where
       told : (r : Rewritten) → Outcomes rows t incoming first gate r → (rowsIn inAppend rows ≡ rowsIn inAppend (paste rows p src (r .replaced)) + r .replaced) × (rowsIn inRewrite (paste rows p src (r .replaced)) ≡ rowsIn inRewrite rows + r .replaced)
       told _ (kept number) = (omega (arith, ap (rowsIn inAppend) same), omega (arith, ap (rowsIn inRewrite) same))
@@ -180,24 +172,20 @@ module _ (rows : List Location) (t : Table) (incoming : List Location) (first : 
 
 -- "Rewriting exactly a fetched run, incoming rows in the rewrite queue, under the same gate raises the count by its length, and the next fetch under that gate is empty."
 module _ (rows : List Location) (t : Table) (gate : ℕ) (incoming : List Location) (formed : wellFormed rows t ≡ true) (new : all inRewrite incoming ≡ true) (exact : length incoming ≡ fetchOf rows t gate .len) where
-  -- the index at which the fetched run starts
-  abbrev at : ℕ
-  at = t .first + fetchOf rows t gate .place
-
-  pub fetched-rewritten : rewriteOf rows t incoming at (Gate.Given gate) ≡ record { number = 0; replaced = fetchOf rows t gate .len; count = t .count + fetchOf rows t gate .len }
+  pub fetched-rewritten : rewriteOf rows t incoming (fetchedAt rows t gate) (Gate.Given gate) ≡ record { number = 0; replaced = fetchOf rows t gate .len; count = t .count + fetchOf rows t gate .len }
   fetched-rewritten = rw (is .0, is .1) (whole-run rows t gate incoming formed new (exact ∙ is .1))
     where
       is : (fetchOf rows t gate .place ≡ t .count) × (fetchOf rows t gate .len ≡ runOf (Stop.Above gate) (drop (t .count) rows))
       is = fetched-formed rows t gate formed
 
-  pub fetched-next : fetchOf (rowsAfter rows t incoming at (Gate.Given gate)) (record { first = t .first; count = rewriteOf rows t incoming at (Gate.Given gate) .count }) gate ≡ record { number = 0; place = t .count + fetchOf rows t gate .len; len = 0 }
-  fetched-next = fetched-is later-rows later-table gate (formed-stays rows t incoming at (Gate.Given gate) formed) ∙ next (later-table .count) (runOf (Stop.Above gate) (drop (later-table .count) later-rows)) raised empty
+  pub fetched-next : fetchOf (rowsAfter rows t incoming (fetchedAt rows t gate) (Gate.Given gate)) (record { first = t .first; count = rewriteOf rows t incoming (fetchedAt rows t gate) (Gate.Given gate) .count }) gate ≡ record { number = 0; place = t .count + fetchOf rows t gate .len; len = 0 }
+  fetched-next = fetched-is later-rows later-table gate (formed-stays rows t incoming (fetchedAt rows t gate) (Gate.Given gate) formed) ∙ next (later-table .count) (runOf (Stop.Above gate) (drop (later-table .count) later-rows)) raised empty
     where
       later-rows : List Location
-      later-rows = rowsAfter rows t incoming at (Gate.Given gate)
+      later-rows = rowsAfter rows t incoming (fetchedAt rows t gate) (Gate.Given gate)
 
       later-table : Table
-      later-table = record { first = t .first; count = rewriteOf rows t incoming at (Gate.Given gate) .count }
+      later-table = record { first = t .first; count = rewriteOf rows t incoming (fetchedAt rows t gate) (Gate.Given gate) .count }
 
       long : ℕ
       long = fetchOf rows t gate .len
@@ -211,11 +199,11 @@ module _ (rows : List Location) (t : Table) (gate : ℕ) (incoming : List Locati
       start : (a b c k l : ℕ) → b ≡ c → k ≡ l → (a + b - a) + k ≡ c + l
       start a b c k l e f = omega arith
 
-      behind : startPlace t at + rewriteOf rows t incoming at (Gate.Given gate) .replaced ≡ t .count + long
-      behind = start (t .first) (fetchOf rows t gate .place) (t .count) (rewriteOf rows t incoming at (Gate.Given gate) .replaced) long (is .0) (ap (λ (r : Rewritten). r .replaced) fetched-rewritten)
+      behind : startPlace t (fetchedAt rows t gate) + rewriteOf rows t incoming (fetchedAt rows t gate) (Gate.Given gate) .replaced ≡ t .count + long
+      behind = start (t .first) (fetchOf rows t gate .place) (t .count) (rewriteOf rows t incoming (fetchedAt rows t gate) (Gate.Given gate) .replaced) long (is .0) (ap (λ (r : Rewritten). r .replaced) fetched-rewritten)
 
       rest : drop (t .count + long) later-rows ≡ drop (t .count + long) rows
-      rest = ap (λ (n : ℕ). drop n later-rows) (sym behind) ∙ rows-behind-kept rows t incoming at (Gate.Given gate) ∙ ap (λ (n : ℕ). drop n rows) behind
+      rest = ap (λ (n : ℕ). drop n later-rows) (sym behind) ∙ rows-behind-kept rows t incoming (fetchedAt rows t gate) (Gate.Given gate) ∙ ap (λ (n : ℕ). drop n rows) behind
 
       empty : runOf (Stop.Above gate) (drop (later-table .count) later-rows) ≡ 0
       empty = ap (λ (n : ℕ). runOf (Stop.Above gate) (drop n later-rows)) raised ∙ ap (runOf (Stop.Above gate)) (rest ∙ sym (drop-drop long (t .count) rows)) ∙ ap (λ (n : ℕ). runOf (Stop.Above gate) (drop n (drop (t .count) rows))) (is .1) ∙ run-over (Stop.Above gate) (drop (t .count) rows)
@@ -225,25 +213,13 @@ module _ (rows : List Location) (t : Table) (gate : ℕ) (incoming : List Locati
 
 -- The row rule holds of each call: where a second rewrite takes the rows that a first one left, its answer and the rows afterwards are the definition's, of the definition's.
 pub one-after-other : (κs κs′ : Lfts 2) (a : Args rw-fn.signature κs) (b : Args rw-fn.signature κs′) (x : Res rw-fn.signature κs) (y : Res rw-fn.signature κs′) (s : AtExit rw-fn.ended κs) (u : AtExit rw-fn.ended κs′)
-    → Rewrote κs a x s → Rewrote κs′ b y u → now (b .0) ≡ now (s .0)
+    → Rewrote (now (a .0)) (a .1 .0) (now (a .1 .1 .0)) (a .1 .1 .1 .0) (a .1 .1 .1 .1 .0) x (now (s .0)) → Rewrote (now (b .0)) (b .1 .0) (now (b .1 .1 .0)) (b .1 .1 .1 .0) (b .1 .1 .1 .1 .0) y (now (u .0)) → now (b .0) ≡ now (s .0)
     → (y ≡ rewriteOf (rowsAfter (now (a .0)) (a .1 .0) (now (a .1 .1 .0)) (a .1 .1 .1 .0) (a .1 .1 .1 .1 .0)) (b .1 .0) (now (b .1 .1 .0)) (b .1 .1 .1 .0) (b .1 .1 .1 .1 .0))
     × (now (u .0) ≡ rowsAfter (rowsAfter (now (a .0)) (a .1 .0) (now (a .1 .1 .0)) (a .1 .1 .1 .0) (a .1 .1 .1 .1 .0)) (b .1 .0) (now (b .1 .1 .0)) (b .1 .1 .1 .0) (b .1 .1 .1 .1 .0))
 one-after-other κs κs′ a b x y s u first second on =
     (second .0 ∙ ap (λ (l : List Location). rewriteOf l (b .1 .0) (now (b .1 .1 .0)) (b .1 .1 .1 .0) (b .1 .1 .1 .1 .0)) (on ∙ first .1), second .1 ∙ ap (λ (l : List Location). rowsAfter l (b .1 .0) (now (b .1 .1 .0)) (b .1 .1 .1 .0) (b .1 .1 .1 .1 .0)) (on ∙ first .1))
 
 -- "Indexes up to 2^64 - 1": one row of the append queue at the last index, rewritten by one at the last index; and two rows from there are a 26, two incoming ones a 27.
-abbrev row : LogQueue → ℕ → Location
-row queue file = record { queue = queue; seq = file; offset = 0; len = 0; «entry_offset» = 0; «entry_len» = 0 }
-
-abbrev last : Table
-last = record { first = 18446744073709551615; count = 0 }
-
-abbrev Appended : List Location
-Appended = row LogQueue.Append 1 ∷ []
-
-abbrev Incoming : List Location
-Incoming = row LogQueue.Rewrite 5 ∷ []
-
 pub at-last-index : (rewriteOf Appended last Incoming 18446744073709551615 (Gate.Given 1) ≡ record { number = 0; replaced = 1; count = 1 }) × ((rowsAfter Appended last Incoming 18446744073709551615 (Gate.Given 1) ≡ Incoming) × (fetchOf Appended last 1 ≡ record { number = 0; place = 0; len = 1 }))
 unfolding rewriteOf rowsAfter fetchOf fetched answered wellFormed ready
 at-last-index = (refl, (refl, refl))

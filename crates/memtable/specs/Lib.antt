@@ -2,4 +2,4 @@ pub mod Rows
 pub mod Table
 pub mod Rewriting
 pub mod Fetching
-pub mod Parts
+pub mod Examples

@@ -1,21 +1,18 @@
 -- When a table of locations is well formed, and when incoming rows are taken.
 -- Assumes nothing.
-use Prim.Native.Nat.{ℕ, _+_}
+use Prim.Native.Nat.{ℕ}
 use mathlib.Core.Bool.{Bool, true, _&&_}
 use mathlib.Core.List.{List, [], _∷_}
 use lib.Dec.{leb}
 use lib.ListN.{length, take, drop}
 use Rattle.pipe_log.specs.declared.Location.{Location}
-use Rattle.memtable.specs.declared.Table.{Table}
-use Rattle.memtable.specs.Rows.{inAppend, inRewrite}
+use Rattle.location_rules.specs.declared.Table.{Table}
+use Rattle.location_rules.specs.Row.{inAppend, inRewrite}
+use Rattle.location_rules.specs.Parts.{indexesFit}
 
 abbrev pub all : (Location → Bool) → List Location → Bool
 all test [] = true
 all test (row ∷ rows) = test row && all test rows
-
--- the last of n indexes from first on is at most 2^64 - 1. An index is below 2^64, so that no rows always fit.
-abbrev pub indexesFit : ℕ → ℕ → Bool
-indexesFit first n = leb (first + n) 18446744073709551616
 
 -- count at most the number of rows, rows before it in the rewrite queue, the others in the append queue, last index at most 2^64 - 1
 unfoldable pub wellFormed : List Location → Table → Bool

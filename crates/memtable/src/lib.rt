@@ -1,58 +1,19 @@
 // The locations of a Raft group's entries: the rewrite of rows, and the fetch of those before a gate. From memtable.rs, rewrite and
-// fetch_entry_indexes_before. The decisions that look at no list of rows are open to callers whose rows lie elsewhere.
+// fetch_entry_indexes_before. What looks at no list of rows is in location_rules.
 ghost use mathlib.Core.Path.{_≡_};
-ghost use Prim.Native.Nat.{_+_, _-_, _<_, _≤_, min, max};
+ghost use Prim.Native.Nat.{_+_, _-_, _≤_};
 ghost use lib.ListN.{length, take, drop};
 ghost use lib.Seq.{paste};
-ghost use Rattle.memtable.specs.Rows.{stopsAt, runOf};
-ghost use Rattle.memtable.specs.Table.{indexesFit, wellFormed};
-ghost use Rattle.memtable.specs.Rewriting.{stopOf, answered, rewriteOf, rowsAfter};
-ghost use Rattle.memtable.specs.Fetching.{fetched, fetchOf};
-ghost use Rattle.memtable.specs.Parts.{wellFormedBy, readyBy, overlapAt, overlapOf};
+ghost use Rattle.memtable.specs.Rows.{runOf};
+ghost use Rattle.memtable.specs.Table.{wellFormed};
+ghost use Rattle.memtable.specs.Rewriting.{rewriteOf, rowsAfter};
+ghost use Rattle.memtable.specs.Fetching.{fetchOf};
+use location_rules::Fetched;
+use location_rules::Gate;
+use location_rules::Rewritten;
+use location_rules::Stop;
+use location_rules::Table;
 use pipe_log::Location;
-use pipe_log::LogQueue;
-
-// A table by value. Its rows are lent beside it, and row i has the index first + i.
-pub struct Table {
-    // first index
-    pub first: u64,
-    // rewritten count: the rows before it are in the rewrite queue
-    pub count: usize,
-}
-
-// The file number up to which rows of the append queue are rewritten, where one is given.
-pub enum Gate {
-    None,
-    Given(u64),
-}
-
-// The answer to a rewrite: the refusal's number or 0, how many rows were replaced, and the rewritten count.
-pub struct Rewritten {
-    pub number: u32,
-    pub replaced: usize,
-    pub count: usize,
-}
-
-// The answer to a fetch: the refusal's number or 0, and the place and length of the run.
-pub struct Fetched {
-    pub number: u32,
-    pub place: usize,
-    pub len: usize,
-}
-
-// What ends a run of rows: a row of the append queue, a row of the rewrite queue, or a row whose file number is above a gate.
-pub enum Stop {
-    Append,
-    Rewrite,
-    Above(u64),
-}
-
-// The overlap of a table and incoming rows: the table's rows start to end, and the incoming rows from `from` on. Nothing: 0, 0, 0.
-pub struct Overlap {
-    pub start: usize,
-    pub end: usize,
-    pub from: usize,
-}
 
 // Replaces the rows that overlap the incoming ones, from the overlap's start until its end or the first stop. The incoming rows are
 // consecutive from the index `first` on. A refused rewrite changes no row.
@@ -67,11 +28,11 @@ pub fn rewrite(
 {
     let good = is_well_formed(rows, table);
     let last = scan(incoming, 0, incoming.len(), Stop::Append);
-    let ready = is_ready(last, incoming.len(), first);
-    let over = overlap_of(table.first, rows.len(), first, incoming.len());
-    let stop = stop_of(gate);
+    let ready = location_rules::is_ready(last, incoming.len(), first);
+    let over = location_rules::overlap_of(table.first, rows.len(), first, incoming.len());
+    let stop = location_rules::stop_of(gate);
     let end = scan(rows, over.start, over.end, stop);
-    let answer = decide(good, ready, table, over, end, gate);
+    let answer = location_rules::decide(good, ready, table, over, end, gate);
     replace(rows, incoming, over.start, over.from, answer.replaced);
     answer
 }
@@ -81,19 +42,19 @@ pub fn fetch_entry_indexes_before(rows: &[Location], table: Table, gate: u64) ->
     ensures { λ r. ⌜ r ≡ fetchOf (now (rows .entry)) table gate ⌝ }
 {
     let good = is_well_formed(rows, table);
-    let start = smaller(table.count, rows.len());
+    let start = location_rules::smaller(table.count, rows.len());
     let end = scan(rows, start, rows.len(), Stop::Above(gate));
-    run_from(good, table, start, end)
+    location_rules::run_from(good, table, start, end)
 }
 
 // Whether the table is well formed.
 fn is_well_formed(rows: &[Location], table: Table) -> bool
     ensures { λ r. ⌜ r ≡ wellFormed (now (rows .entry)) table ⌝ }
 {
-    let count = smaller(table.count, rows.len());
+    let count = location_rules::smaller(table.count, rows.len());
     let front = scan(rows, 0, count, Stop::Append);
     let back = scan(rows, count, rows.len(), Stop::Rewrite);
-    is_formed(table, rows.len(), front, back)
+    location_rules::is_formed(table, rows.len(), front, back)
 }
 
 // Where the first row that stops the run stands, from lo on and before hi, or hi.
@@ -103,7 +64,7 @@ fn scan(rows: &[Location], lo: usize, hi: usize, stop: Stop) -> usize
 {
     let mut i: usize = lo;
     while i < hi {
-        if stops(rows[i], stop) {
+        if location_rules::stops(rows[i], stop) {
             break;
         }
         i = i + 1;
@@ -120,199 +81,5 @@ fn replace(rows: &mut [Location], incoming: &[Location], start: usize, from: usi
     while i < k {
         rows[start + i] = incoming[from + i];
         i = i + 1;
-    }
-}
-
-// Whether the row ends the run.
-pub fn stops(row: Location, stop: Stop) -> bool
-    ensures { λ r. ⌜ r ≡ stopsAt stop row ⌝ }
-{
-    let queue = row.queue;
-    match stop {
-        Stop::Append => match queue {
-            LogQueue::Append => true,
-            LogQueue::Rewrite => false,
-        },
-        Stop::Rewrite => match queue {
-            LogQueue::Append => false,
-            LogQueue::Rewrite => true,
-        },
-        Stop::Above(gate) => gate < row.seq,
-    }
-}
-
-// What ends the run of rows that are replaced under this gate.
-pub fn stop_of(gate: Gate) -> Stop
-    ensures { λ r. ⌜ r ≡ stopOf gate ⌝ }
-{
-    match gate {
-        Gate::None => Stop::Append,
-        Gate::Given(number) => Stop::Above(number),
-    }
-}
-
-fn smaller(a: usize, b: usize) -> usize
-    ensures { λ r. ⌜ r ≡ min a b ⌝ }
-{
-    if a < b { a } else { b }
-}
-
-fn larger(a: usize, b: usize) -> usize
-    ensures { λ r. ⌜ r ≡ max a b ⌝ }
-{
-    if a < b { b } else { a }
-}
-
-// Whether the indexes of n rows from first on end at 2^64 - 1 or before.
-fn fits(first: u64, n: usize) -> bool
-    ensures { λ r. ⌜ r ≡ indexesFit first n ⌝ }
-{
-    if n == 0 {
-        return true;
-    }
-    let room = 18446744073709551615 - first;
-    (n - 1) as u64 <= room
-}
-
-// Whether a table of n rows is well formed, by where a row of the wrong queue stands: the first before the count, and the first after it.
-pub fn is_formed(table: Table, n: usize, front: usize, back: usize) -> bool
-    ensures { λ r. ⌜ r ≡ wellFormedBy table n front back ⌝ }
-{
-    let count = table.count;
-    if n < count {
-        return false;
-    }
-    if front < count {
-        return false;
-    }
-    if back < n {
-        return false;
-    }
-    fits(table.first, n)
-}
-
-// Whether n incoming rows are taken, by where the first that is not in the rewrite queue stands.
-pub fn is_ready(last: usize, n: usize, first: u64) -> bool
-    ensures { λ r. ⌜ r ≡ readyBy last n first ⌝ }
-{
-    if last < n {
-        return false;
-    }
-    fits(first, n)
-}
-
-// The overlap of n rows from the index `own` on and m incoming rows from the index `first` on.
-pub fn overlap_of(own: u64, n: usize, first: u64, m: usize) -> Overlap
-    ensures { λ r. ⌜ r ≡ overlapOf (first - own) (own - first) n m ⌝ }
-{
-    if own <= first {
-        let start = (first - own) as usize;
-        if n <= start {
-            return overlap_at(0, 0, 0);
-        }
-        return overlap_at(start, 0, smaller(n - start, m));
-    }
-    let from = (own - first) as usize;
-    if m <= from {
-        return overlap_at(0, 0, 0);
-    }
-    overlap_at(0, from, smaller(n, m - from))
-}
-
-// The overlap of len rows from these places on.
-fn overlap_at(start: usize, from: usize, len: usize) -> Overlap
-    requires { ⌜ start + len < 18446744073709551616 ⌝ }
-    ensures { λ r. ⌜ r ≡ overlapAt start from len ⌝ }
-{
-    if len == 0 {
-        return Overlap {
-            start: 0,
-            end: 0,
-            from: 0,
-        };
-    }
-    Overlap {
-        start,
-        end: start + len,
-        from,
-    }
-}
-
-// The answer: the first check that fails, else how many rows are replaced, and the count. The run of rows before the first stop goes
-// from the overlap's start to `end`, and is empty where that is before the start.
-pub fn decide(
-    good: bool,
-    ready: bool,
-    table: Table,
-    over: Overlap,
-    end: usize,
-    gate: Gate,
-) -> Rewritten
-    ensures { λ r. ⌜ r ≡ answered good ready table (over .start) (over .end - over .start) (end - over .start) gate ⌝ }
-{
-    let count = table.count;
-    let start = over.start;
-    let limit = over.end;
-    if !good {
-        return unchanged(refusal::TABLE_BROKEN, count);
-    }
-    if !ready {
-        return unchanged(refusal::INCOMING_BROKEN, count);
-    }
-    if limit <= start {
-        return unchanged(refusal::NONE, count);
-    }
-    if count < start {
-        return unchanged(refusal::OVERLAP_AFTER, count);
-    }
-    let reached = larger(start, end);
-    let run = reached - start;
-    match gate {
-        Gate::None => moved(run, larger(reached, count)),
-        Gate::Given(_number) => {
-            if start < count {
-                return unchanged(refusal::OVERLAP_BEFORE, count);
-            }
-            moved(run, reached)
-        }
-    }
-}
-
-fn unchanged(number: u32, count: usize) -> Rewritten
-    ensures { λ r. ⌜ r ≡ record { number = number; replaced = 0; count = count } ⌝ }
-{
-    Rewritten {
-        number,
-        replaced: 0,
-        count,
-    }
-}
-
-fn moved(replaced: usize, count: usize) -> Rewritten
-    ensures { λ r. ⌜ r ≡ record { number = 0; replaced = replaced; count = count } ⌝ }
-{
-    Rewritten {
-        number: refusal::NONE,
-        replaced,
-        count,
-    }
-}
-
-// The run of a table from its rewritten count on; it goes from start to `end`, and is empty where that is before the start.
-pub fn run_from(formed: bool, table: Table, start: usize, end: usize) -> Fetched
-    ensures { λ r. ⌜ r ≡ fetched formed table (end - start) ⌝ }
-{
-    if !formed {
-        return Fetched {
-            number: refusal::TABLE_BROKEN,
-            place: 0,
-            len: 0,
-        };
-    }
-    let reached = larger(start, end);
-    Fetched {
-        number: refusal::NONE,
-        place: table.count,
-        len: reached - start,
     }
 }

@@ -4,10 +4,10 @@ use Prim.Native.Nat.{ℕ}
 use mathlib.Core.Path.{_≡_}
 use mathlib.Core.Bool.{Bool, true, false}
 use mathlib.Core.List.{List, [], _∷_}
-use Rattle.memtable.specs.declared.Table.{Table}
-use Rattle.memtable.specs.declared.Gate.{Gate}
-use Rattle.memtable.specs.declared.Rewritten.{Rewritten}
-use Rattle.memtable.specs.declared.Fetched.{Fetched}
+use Rattle.location_rules.specs.declared.Table.{Table}
+use Rattle.location_rules.specs.declared.Gate.{Gate}
+use Rattle.location_rules.specs.declared.Rewritten.{Rewritten}
+use Rattle.location_rules.specs.declared.Fetched.{Fetched}
 use Rattle.location_rows.specs.Words.{rowsOf}
 use Rattle.location_rows.specs.Answers.{rewriteRows, rowsAfterwards}
 use Rattle.raft_log.specs.Reply.{Reply, reply}

@@ -3,7 +3,7 @@ ghost use mathlib.Core.Path.{_≡_};
 ghost use Rattle.location_rows.specs.Answers.{tableOf, fetchWords};
 ghost use Rattle.raft_log.specs.Reply.{reply};
 ghost use Rattle.raft_log.specs.Locations.{gateOf, fetchReply, RewriteReplied};
-use memtable::Gate;
+use location_rules::Gate;
 
 // Replaces rows of a location table by incoming ones.
 #[no_mangle]

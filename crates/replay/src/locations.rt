@@ -1,11 +1,11 @@
 // Locations: rewriting, and the fetch before a gate. Tables are of at most 64 rows, six words each.
 use crate::input;
 use crate::items;
+use location_rules::Gate;
+use location_rules::Table;
 use location_table::fetch_entry_indexes_before;
 use location_table::rewrite;
 use location_table::rows_after;
-use memtable::Gate;
-use memtable::Table;
 use pipe_log::Location;
 use pipe_log::LogQueue;
 

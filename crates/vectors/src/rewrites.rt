@@ -3,8 +3,8 @@
 use crate::input;
 use crate::locations;
 use crate::text;
-use memtable::Gate;
-use memtable::Table;
+use location_rules::Gate;
+use location_rules::Table;
 use pipe_log::Location;
 
 // A table and its rows.

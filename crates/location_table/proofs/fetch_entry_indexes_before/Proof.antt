@@ -48,16 +48,16 @@ use denote.Struct.Laws as LL
 use Rattle.pipe_log.specs.declared.Location.{Location}
 use Rattle.pipe_log.proofs.Location as T
 use Rattle.pipe_log.proofs.Location.Laws as T′
-use Rattle.memtable.specs.declared.Table.{Table}
-use Rattle.memtable.specs.declared.Fetched.{Fetched}
+use Rattle.location_rules.specs.declared.Table.{Table}
+use Rattle.location_rules.specs.declared.Fetched.{Fetched}
 use Rattle.memtable.specs.Fetching.{fetchOf}
 use Rattle.location_table.specs.Values.{rowsUsed, fetchedOf, fetchValue}
 use Rattle.location_table.proofs.Cut.{rows-cut, rows-join}
 use Rattle.location_table.proofs.Parts.{used-le, part-long, part-room, whole-long, fetch-is}
-use Rattle.memtable.proofs.Table as Tb
-use Rattle.memtable.proofs.Table.Laws as Tb′
-use Rattle.memtable.proofs.Fetched as Ft
-use Rattle.memtable.proofs.Fetched.Laws as Ft′
+use Rattle.location_rules.proofs.Table as Tb
+use Rattle.location_rules.proofs.Table.Laws as Tb′
+use Rattle.location_rules.proofs.Fetched as Ft
+use Rattle.location_rules.proofs.Fetched.Laws as Ft′
 use Rattle.by_hand.proofs.Locals.{tyAt}
 use Rattle.memtable.proofs.Machine.{R, valT, valF}
 use Rattle.location_table.proofs.used as us

@@ -49,19 +49,19 @@ use denote.Enum.Laws as EL
 use Rattle.pipe_log.specs.declared.Location.{Location}
 use Rattle.pipe_log.proofs.Location as T
 use Rattle.pipe_log.proofs.Location.Laws as T′
-use Rattle.memtable.specs.declared.Table.{Table}
-use Rattle.memtable.specs.declared.Gate.{Gate}
-use Rattle.memtable.specs.declared.Rewritten.{Rewritten}
+use Rattle.location_rules.specs.declared.Table.{Table}
+use Rattle.location_rules.specs.declared.Gate.{Gate}
+use Rattle.location_rules.specs.declared.Rewritten.{Rewritten}
 use Rattle.memtable.specs.Rewriting.{rewriteOf, rowsAfter}
 use Rattle.location_table.specs.Values.{rowsUsed, answerOf, rewriteValue}
 use Rattle.location_table.proofs.Cut.{rows-cut, rows-join}
 use Rattle.location_table.proofs.Parts.{used-le, part-long, part-room, whole-long, answer-is}
-use Rattle.memtable.proofs.Table as Tb
-use Rattle.memtable.proofs.Table.Laws as Tb′
-use Rattle.memtable.proofs.Gate as G
-use Rattle.memtable.proofs.Gate.Laws as G′
-use Rattle.memtable.proofs.Rewritten as D
-use Rattle.memtable.proofs.Rewritten.Laws as D′
+use Rattle.location_rules.proofs.Table as Tb
+use Rattle.location_rules.proofs.Table.Laws as Tb′
+use Rattle.location_rules.proofs.Gate as G
+use Rattle.location_rules.proofs.Gate.Laws as G′
+use Rattle.location_rules.proofs.Rewritten as D
+use Rattle.location_rules.proofs.Rewritten.Laws as D′
 use Rattle.by_hand.proofs.Locals.{tyAt}
 use Rattle.memtable.proofs.Machine.{R, valT, valD}
 use Rattle.location_table.proofs.used as us

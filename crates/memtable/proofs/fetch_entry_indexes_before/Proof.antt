@@ -42,26 +42,27 @@ use denote.Triple.Walked.{says, Stays, stay-none, walkOf, goes-none, Walks, ends
 use denote.Struct.Laws as LL
 use denote.Enum.Laws as EL
 use Rattle.pipe_log.specs.declared.Location.{Location}
-use Rattle.memtable.specs.declared.Table.{Table}
-use Rattle.memtable.specs.declared.Stop.{Stop}
-use Rattle.memtable.specs.declared.Fetched.{Fetched}
+use Rattle.location_rules.specs.declared.Table.{Table}
+use Rattle.location_rules.specs.declared.Stop.{Stop}
+use Rattle.location_rules.specs.declared.Fetched.{Fetched}
 use Rattle.memtable.specs.Rows.{runOf}
 use Rattle.memtable.specs.Table.{wellFormed}
-use Rattle.memtable.specs.Fetching.{fetched, fetchOf}
+use Rattle.location_rules.specs.Decisions.{fetched}
+use Rattle.memtable.specs.Fetching.{fetchOf}
 use Rattle.memtable.proofs.Place.{cut-le}
 use Rattle.memtable.proofs.Surveys.{fetched-by}
 use Rattle.by_hand.proofs.Locals.{tyAt}
 use Rattle.memtable.proofs.Machine.{R, valT, valS}
-use Rattle.memtable.proofs.Table as Tb
-use Rattle.memtable.proofs.Table.Laws as Tb′
-use Rattle.memtable.proofs.Stop as S
-use Rattle.memtable.proofs.Stop.Laws as S′
-use Rattle.memtable.proofs.Fetched as Ft
-use Rattle.memtable.proofs.Fetched.Laws as Ft′
-use Rattle.memtable.proofs.smaller as sm
-use Rattle.memtable.proofs.smaller.Symbol as sm-def
-use Rattle.memtable.proofs.smaller.Symbol.{name as #smaller}
-use Rattle.memtable.proofs.smaller.Met as sm-thm
+use Rattle.location_rules.proofs.Table as Tb
+use Rattle.location_rules.proofs.Table.Laws as Tb′
+use Rattle.location_rules.proofs.Stop as S
+use Rattle.location_rules.proofs.Stop.Laws as S′
+use Rattle.location_rules.proofs.Fetched as Ft
+use Rattle.location_rules.proofs.Fetched.Laws as Ft′
+use Rattle.location_rules.proofs.smaller as sm
+use Rattle.location_rules.proofs.smaller.Symbol as sm-def
+use Rattle.location_rules.proofs.smaller.Symbol.{name as #smaller}
+use Rattle.location_rules.proofs.smaller.Met as sm-thm
 use Rattle.memtable.proofs.scan as sc
 use Rattle.memtable.proofs.scan.Symbol as sc-def
 use Rattle.memtable.proofs.scan.Symbol.{name as #scan}
@@ -70,10 +71,10 @@ use Rattle.memtable.proofs.is_well_formed as wf
 use Rattle.memtable.proofs.is_well_formed.Symbol as wf-def
 use Rattle.memtable.proofs.is_well_formed.Symbol.{name as #formed}
 use Rattle.memtable.proofs.is_well_formed.Met as wf-thm
-use Rattle.memtable.proofs.run_from as rf
-use Rattle.memtable.proofs.run_from.Symbol as rf-def
-use Rattle.memtable.proofs.run_from.Symbol.{name as #from}
-use Rattle.memtable.proofs.run_from.Met as rf-thm
+use Rattle.location_rules.proofs.run_from as rf
+use Rattle.location_rules.proofs.run_from.Symbol as rf-def
+use Rattle.location_rules.proofs.run_from.Symbol.{name as #from}
+use Rattle.location_rules.proofs.run_from.Met as rf-thm
 use Rattle.memtable.proofs.fetch_entry_indexes_before.Key.{name as #f}
 use Rattle.memtable.proofs.fetch_entry_indexes_before as f
 use Rattle.memtable.proofs.fetch_entry_indexes_before.Statement as stated
@@ -227,7 +228,7 @@ fetch-entry-indexes-before-spec 𝓤 H 𝓜 𝓖 𝓡 =
     entered 𝓤 H (tripleOf 𝓤 H (𝓖 .A) f.signature (f.spec 𝓤 H (𝓖 .A) (𝓜 .mem) (𝓡 .run)))
     (tables 𝓤 H 𝓜 𝓡 code.env .C) (tables 𝓤 H 𝓜 𝓡 code.env .Λ) #f code.function (code.unfolded 𝓤 H 𝓜 𝓡)
     (meets 𝓤 H (𝓖 .A) (givenOf 𝓤 H 𝓜 𝓖) (𝓜 .mem) (𝓡 .run) (tablesOf 𝓤 H 𝓜 (tables 𝓤 H 𝓜 𝓡 code.env))
-    (cited 𝓤 H (Smaller 𝓤 H (𝓖 .A) (𝓜 .mem) (𝓡 .run)) 𝓜 𝓡 code.env #smaller sm-def.routine code.calls-memtable·smaller (sm-thm.met 𝓤 H 𝓜 𝓖 𝓡))
+    (cited 𝓤 H (Smaller 𝓤 H (𝓖 .A) (𝓜 .mem) (𝓡 .run)) 𝓜 𝓡 code.env #smaller sm-def.routine code.calls-location-rules·smaller (sm-thm.met 𝓤 H 𝓜 𝓖 𝓡))
     (cited 𝓤 H (Scan 𝓤 H (𝓖 .A) (𝓜 .mem) (𝓡 .run)) 𝓜 𝓡 code.env #scan sc-def.routine code.calls-memtable·scan (sc-thm.met 𝓤 H 𝓜 𝓖 𝓡))
     (cited 𝓤 H (Formed 𝓤 H (𝓖 .A) (𝓜 .mem) (𝓡 .run)) 𝓜 𝓡 code.env #formed wf-def.routine code.calls-memtable·is-well-formed (wf-thm.met 𝓤 H 𝓜 𝓖 𝓡))
-    (cited 𝓤 H (From 𝓤 H (𝓖 .A) (𝓜 .mem) (𝓡 .run)) 𝓜 𝓡 code.env #from rf-def.routine code.calls-memtable·run-from (rf-thm.met 𝓤 H 𝓜 𝓖 𝓡)))
+    (cited 𝓤 H (From 𝓤 H (𝓖 .A) (𝓜 .mem) (𝓡 .run)) 𝓜 𝓡 code.env #from rf-def.routine code.calls-location-rules·run-from (rf-thm.met 𝓤 H 𝓜 𝓖 𝓡)))

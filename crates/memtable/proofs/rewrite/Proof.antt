@@ -52,30 +52,31 @@ use lib.Dec.{T as Holds}
 use denote.Struct.Laws as LL
 use denote.Enum.Laws as EL
 use Rattle.pipe_log.specs.declared.Location.{Location}
-use Rattle.memtable.specs.declared.Table.{Table}
-use Rattle.memtable.specs.declared.Gate.{Gate}
-use Rattle.memtable.specs.declared.Stop.{Stop}
-use Rattle.memtable.specs.declared.Overlap.{Overlap}
-use Rattle.memtable.specs.declared.Rewritten.{Rewritten}
+use Rattle.location_rules.specs.declared.Table.{Table}
+use Rattle.location_rules.specs.declared.Gate.{Gate}
+use Rattle.location_rules.specs.declared.Stop.{Stop}
+use Rattle.location_rules.specs.declared.Overlap.{Overlap}
+use Rattle.location_rules.specs.declared.Rewritten.{Rewritten}
 use Rattle.memtable.specs.Rows.{runOf}
 use Rattle.memtable.specs.Table.{wellFormed}
-use Rattle.memtable.specs.Rewriting.{stopOf, answered, rewriteOf, rowsAfter}
-use Rattle.memtable.specs.Parts.{readyBy, overlapOf}
+use Rattle.location_rules.specs.Decisions.{stopOf, answered}
+use Rattle.memtable.specs.Rewriting.{rewriteOf, rowsAfter}
+use Rattle.location_rules.specs.Parts.{readyBy, overlapOf}
 use Rattle.memtable.proofs.Place.{from-0}
-use Rattle.memtable.proofs.Overlaps.{over-le, over-rows}
+use Rattle.location_rules.proofs.Overlaps.{over-le, over-rows}
 use Rattle.memtable.proofs.Rewrites.{run-fits, rewritten-by}
 use Rattle.by_hand.proofs.Locals.{tyAt}
 use Rattle.memtable.proofs.Machine.{R, valT, valO, valD, valS, is-append}
-use Rattle.memtable.proofs.Table as Tb
-use Rattle.memtable.proofs.Table.Laws as Tb′
-use Rattle.memtable.proofs.Gate as G
-use Rattle.memtable.proofs.Gate.Laws as G′
-use Rattle.memtable.proofs.Stop as S
-use Rattle.memtable.proofs.Stop.Laws as S′
-use Rattle.memtable.proofs.Overlap as O
-use Rattle.memtable.proofs.Overlap.Laws as O′
-use Rattle.memtable.proofs.Rewritten as D
-use Rattle.memtable.proofs.Rewritten.Laws as D′
+use Rattle.location_rules.proofs.Table as Tb
+use Rattle.location_rules.proofs.Table.Laws as Tb′
+use Rattle.location_rules.proofs.Gate as G
+use Rattle.location_rules.proofs.Gate.Laws as G′
+use Rattle.location_rules.proofs.Stop as S
+use Rattle.location_rules.proofs.Stop.Laws as S′
+use Rattle.location_rules.proofs.Overlap as O
+use Rattle.location_rules.proofs.Overlap.Laws as O′
+use Rattle.location_rules.proofs.Rewritten as D
+use Rattle.location_rules.proofs.Rewritten.Laws as D′
 use Rattle.memtable.proofs.is_well_formed as wf
 use Rattle.memtable.proofs.is_well_formed.Symbol as wf-def
 use Rattle.memtable.proofs.is_well_formed.Symbol.{name as #formed}
@@ -84,22 +85,22 @@ use Rattle.memtable.proofs.scan as sc
 use Rattle.memtable.proofs.scan.Symbol as sc-def
 use Rattle.memtable.proofs.scan.Symbol.{name as #scan}
 use Rattle.memtable.proofs.scan.Met as sc-thm
-use Rattle.memtable.proofs.is_ready as rd
-use Rattle.memtable.proofs.is_ready.Symbol as rd-def
-use Rattle.memtable.proofs.is_ready.Symbol.{name as #ready}
-use Rattle.memtable.proofs.is_ready.Met as rd-thm
-use Rattle.memtable.proofs.overlap_of as ov
-use Rattle.memtable.proofs.overlap_of.Symbol as ov-def
-use Rattle.memtable.proofs.overlap_of.Symbol.{name as #over}
-use Rattle.memtable.proofs.overlap_of.Met as ov-thm
-use Rattle.memtable.proofs.stop_of as so
-use Rattle.memtable.proofs.stop_of.Symbol as so-def
-use Rattle.memtable.proofs.stop_of.Symbol.{name as #stop-of}
-use Rattle.memtable.proofs.stop_of.Met as so-thm
-use Rattle.memtable.proofs.decide as dc
-use Rattle.memtable.proofs.decide.Symbol as dc-def
-use Rattle.memtable.proofs.decide.Symbol.{name as #decide}
-use Rattle.memtable.proofs.decide.Met as dc-thm
+use Rattle.location_rules.proofs.is_ready as rd
+use Rattle.location_rules.proofs.is_ready.Symbol as rd-def
+use Rattle.location_rules.proofs.is_ready.Symbol.{name as #ready}
+use Rattle.location_rules.proofs.is_ready.Met as rd-thm
+use Rattle.location_rules.proofs.overlap_of as ov
+use Rattle.location_rules.proofs.overlap_of.Symbol as ov-def
+use Rattle.location_rules.proofs.overlap_of.Symbol.{name as #over}
+use Rattle.location_rules.proofs.overlap_of.Met as ov-thm
+use Rattle.location_rules.proofs.stop_of as so
+use Rattle.location_rules.proofs.stop_of.Symbol as so-def
+use Rattle.location_rules.proofs.stop_of.Symbol.{name as #stop-of}
+use Rattle.location_rules.proofs.stop_of.Met as so-thm
+use Rattle.location_rules.proofs.decide as dc
+use Rattle.location_rules.proofs.decide.Symbol as dc-def
+use Rattle.location_rules.proofs.decide.Symbol.{name as #decide}
+use Rattle.location_rules.proofs.decide.Met as dc-thm
 use Rattle.memtable.proofs.replace as rp
 use Rattle.memtable.proofs.replace.Symbol as rp-def
 use Rattle.memtable.proofs.replace.Symbol.{name as #replace}
@@ -388,8 +389,8 @@ rewrite-spec 𝓤 H 𝓜 𝓖 𝓡 =
     (meets 𝓤 H (𝓖 .A) (givenOf 𝓤 H 𝓜 𝓖) (𝓜 .mem) (𝓡 .run) (tablesOf 𝓤 H 𝓜 (tables 𝓤 H 𝓜 𝓡 code.env))
     (cited 𝓤 H (Formed 𝓤 H (𝓖 .A) (𝓜 .mem) (𝓡 .run)) 𝓜 𝓡 code.env #formed wf-def.routine code.calls-memtable·is-well-formed (wf-thm.met 𝓤 H 𝓜 𝓖 𝓡))
     (cited 𝓤 H (Scan 𝓤 H (𝓖 .A) (𝓜 .mem) (𝓡 .run)) 𝓜 𝓡 code.env #scan sc-def.routine code.calls-memtable·scan (sc-thm.met 𝓤 H 𝓜 𝓖 𝓡))
-    (cited 𝓤 H (Ready 𝓤 H (𝓖 .A) (𝓜 .mem) (𝓡 .run)) 𝓜 𝓡 code.env #ready rd-def.routine code.calls-memtable·is-ready (rd-thm.met 𝓤 H 𝓜 𝓖 𝓡))
-    (cited 𝓤 H (Over 𝓤 H (𝓖 .A) (𝓜 .mem) (𝓡 .run)) 𝓜 𝓡 code.env #over ov-def.routine code.calls-memtable·overlap-of (ov-thm.met 𝓤 H 𝓜 𝓖 𝓡))
-    (cited 𝓤 H (StopOf 𝓤 H (𝓖 .A) (𝓜 .mem) (𝓡 .run)) 𝓜 𝓡 code.env #stop-of so-def.routine code.calls-memtable·stop-of (so-thm.met 𝓤 H 𝓜 𝓖 𝓡))
-    (cited 𝓤 H (Decide 𝓤 H (𝓖 .A) (𝓜 .mem) (𝓡 .run)) 𝓜 𝓡 code.env #decide dc-def.routine code.calls-memtable·decide (dc-thm.met 𝓤 H 𝓜 𝓖 𝓡))
+    (cited 𝓤 H (Ready 𝓤 H (𝓖 .A) (𝓜 .mem) (𝓡 .run)) 𝓜 𝓡 code.env #ready rd-def.routine code.calls-location-rules·is-ready (rd-thm.met 𝓤 H 𝓜 𝓖 𝓡))
+    (cited 𝓤 H (Over 𝓤 H (𝓖 .A) (𝓜 .mem) (𝓡 .run)) 𝓜 𝓡 code.env #over ov-def.routine code.calls-location-rules·overlap-of (ov-thm.met 𝓤 H 𝓜 𝓖 𝓡))
+    (cited 𝓤 H (StopOf 𝓤 H (𝓖 .A) (𝓜 .mem) (𝓡 .run)) 𝓜 𝓡 code.env #stop-of so-def.routine code.calls-location-rules·stop-of (so-thm.met 𝓤 H 𝓜 𝓖 𝓡))
+    (cited 𝓤 H (Decide 𝓤 H (𝓖 .A) (𝓜 .mem) (𝓡 .run)) 𝓜 𝓡 code.env #decide dc-def.routine code.calls-location-rules·decide (dc-thm.met 𝓤 H 𝓜 𝓖 𝓡))
     (cited 𝓤 H (Replace 𝓤 H (𝓖 .A) (𝓜 .mem) (𝓡 .run)) 𝓜 𝓡 code.env #replace rp-def.routine code.calls-memtable·replace (rp-thm.met 𝓤 H 𝓜 𝓖 𝓡)))

@@ -48,8 +48,8 @@ use denote.Triple.Table.{entered, cited}
 use denote.Triple.Walked.{says, needs, Stays, stay-none-slice, stay-none, walkOf, goes-none-slice, goes-none, Walks, ends-at, walked, walk-meets}
 use denote.Exit.{yes}
 use Rattle.pipe_log.specs.declared.Location.{Location}
-use Rattle.memtable.specs.declared.Stop.{Stop}
-use Rattle.memtable.specs.Rows.{stopsAt}
+use Rattle.location_rules.specs.declared.Stop.{Stop}
+use Rattle.location_rules.specs.Row.{stopsAt}
 use Rattle.by_hand.proofs.Locals.{tyAt}
 use Rattle.memtable.proofs.Machine.{R, valR, valS}
 use Rattle.memtable.proofs.Place.{reach, up-to, step-fits, one-more}
@@ -58,12 +58,12 @@ use Rattle.by_hand.proofs.Loop.{holds, counted}
 use Rattle.memtable.proofs.Runs.{noRow, runFrom, run-none, stopped, goes-on}
 use Rattle.pipe_log.proofs.Location as T
 use Rattle.pipe_log.proofs.Location.Laws as T′
-use Rattle.memtable.proofs.Stop as S
-use Rattle.memtable.proofs.Stop.Laws as S′
-use Rattle.memtable.proofs.stops as stops
-use Rattle.memtable.proofs.stops.Symbol as stops-def
-use Rattle.memtable.proofs.stops.Symbol.{name as #stops}
-use Rattle.memtable.proofs.stops.Met as stops-thm
+use Rattle.location_rules.proofs.Stop as S
+use Rattle.location_rules.proofs.Stop.Laws as S′
+use Rattle.location_rules.proofs.stops as stops
+use Rattle.location_rules.proofs.stops.Symbol as stops-def
+use Rattle.location_rules.proofs.stops.Symbol.{name as #stops}
+use Rattle.location_rules.proofs.stops.Met as stops-thm
 use Rattle.memtable.proofs.scan.Key.{name as #f}
 use Rattle.memtable.proofs.scan as f
 use Rattle.memtable.proofs.scan.Statement as stated
@@ -271,4 +271,4 @@ scan-spec 𝓤 H 𝓜 𝓖 𝓡 =
     entered 𝓤 H (tripleOf 𝓤 H (𝓖 .A) f.signature (f.spec 𝓤 H (𝓖 .A) (𝓜 .mem) (𝓡 .run)))
     (tables 𝓤 H 𝓜 𝓡 code.env .C) (tables 𝓤 H 𝓜 𝓡 code.env .Λ) #f code.function (code.unfolded 𝓤 H 𝓜 𝓡)
     (scan-meets 𝓤 H (𝓖 .A) (givenOf 𝓤 H 𝓜 𝓖) (𝓜 .mem) (𝓡 .run) (tablesOf 𝓤 H 𝓜 (tables 𝓤 H 𝓜 𝓡 code.env))
-    (cited 𝓤 H (Stops 𝓤 H (𝓖 .A) (𝓜 .mem) (𝓡 .run)) 𝓜 𝓡 code.env #stops stops-def.routine code.calls-memtable·stops (stops-thm.met 𝓤 H 𝓜 𝓖 𝓡)))
+    (cited 𝓤 H (Stops 𝓤 H (𝓖 .A) (𝓜 .mem) (𝓡 .run)) 𝓜 𝓡 code.env #stops stops-def.routine code.calls-location-rules·stops (stops-thm.met 𝓤 H 𝓜 𝓖 𝓡)))

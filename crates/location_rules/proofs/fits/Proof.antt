@@ -1,9 +1,9 @@
--- `memtable::fits` meets its contract: a law for each way out.
+-- `location_rules::fits` meets its contract: a law for each way out.
 -- Assumes nothing.
-use Rattle.memtable.proofs.Forming.{fit-none, fit-some}
+use Rattle.location_rules.proofs.Forming.{fit-none, fit-some}
 use borrow.Author.Needs.{needs}
-use Rattle.memtable.proofs.fits.Statement.{statement}
-use Rattle.memtable.proofs.fits.Tie as tie
+use Rattle.location_rules.proofs.fits.Statement.{statement}
+use Rattle.location_rules.proofs.fits.Tie as tie
 
 returns : tie.Need-returns
 returns c = fit-none _ _ (c .if1 .taken) (c .before .fits .first .fits)

@@ -1,9 +1,9 @@
--- `memtable::is_formed` meets its contract: a law for each way out.
+-- `location_rules::is_formed` meets its contract: a law for each way out.
 -- Assumes nothing.
-use Rattle.memtable.proofs.Forming.{beyond, front-wrong, back-wrong, formed}
+use Rattle.location_rules.proofs.Forming.{beyond, front-wrong, back-wrong, formed}
 use borrow.Author.Needs.{needs}
-use Rattle.memtable.proofs.is_formed.Statement.{statement}
-use Rattle.memtable.proofs.is_formed.Tie as tie
+use Rattle.location_rules.proofs.is_formed.Statement.{statement}
+use Rattle.location_rules.proofs.is_formed.Tie as tie
 
 returns : tie.Need-returns
 returns c = beyond _ _ _ _ (c .if1 .taken)

@@ -1,11 +1,11 @@
--- `memtable::stops` meets its contract: a law for each way out.
+-- `location_rules::stops` meets its contract: a law for each way out.
 -- Assumes nothing.
 use mathlib.Core.Path.{ap, sym}
-use Rattle.memtable.specs.declared.Stop.{Stop}
-use Rattle.memtable.specs.Rows.{stopsAt}
+use Rattle.location_rules.specs.declared.Stop.{Stop}
+use Rattle.location_rules.specs.Row.{stopsAt}
 use borrow.Author.Needs.{needs}
-use Rattle.memtable.proofs.stops.Statement.{statement}
-use Rattle.memtable.proofs.stops.Tie as tie
+use Rattle.location_rules.proofs.stops.Statement.{statement}
+use Rattle.location_rules.proofs.stops.Tie as tie
 
 enum-told : tie.Need-enum-told
 enum-told c = search needs

@@ -6,10 +6,10 @@ use native.Mathlib.Omega.{arith}
 use mathlib.Core.Bool.{Bool, true, false}
 use lib.Dec.{eqb}
 use borrow.Author.Tests.{lt-ltb, le-ltb, eq-eqb, ne-eqb}
-use Rattle.memtable.specs.declared.Table.{Table}
-use Rattle.memtable.specs.declared.Gate.{Gate}
-use Rattle.memtable.specs.declared.Rewritten.{Rewritten}
-use Rattle.memtable.specs.Rewriting.{unchanged, answered}
+use Rattle.location_rules.specs.declared.Table.{Table}
+use Rattle.location_rules.specs.declared.Gate.{Gate}
+use Rattle.location_rules.specs.declared.Rewritten.{Rewritten}
+use Rattle.location_rules.specs.Decisions.{unchanged, answered}
 
 -- the answer where rows are replaced
 abbrev moved : ℕ → ℕ → Rewritten

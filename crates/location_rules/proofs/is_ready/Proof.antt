@@ -1,9 +1,9 @@
--- `memtable::is_ready` meets its contract: a law for each way out.
+-- `location_rules::is_ready` meets its contract: a law for each way out.
 -- Assumes nothing.
-use Rattle.memtable.proofs.Forming.{unready, is-ready}
+use Rattle.location_rules.proofs.Forming.{unready, is-ready}
 use borrow.Author.Needs.{needs}
-use Rattle.memtable.proofs.is_ready.Statement.{statement}
-use Rattle.memtable.proofs.is_ready.Tie as tie
+use Rattle.location_rules.proofs.is_ready.Statement.{statement}
+use Rattle.location_rules.proofs.is_ready.Tie as tie
 
 returns : tie.Need-returns
 returns c = unready _ _ _ (c .if1 .taken)

@@ -1,10 +1,10 @@
--- `memtable::stop_of` meets its contract: a law for each way out.
+-- `location_rules::stop_of` meets its contract: a law for each way out.
 -- Assumes nothing.
 use mathlib.Core.Path.{ap, sym}
-use Rattle.memtable.specs.Rewriting.{stopOf}
+use Rattle.location_rules.specs.Decisions.{stopOf}
 use borrow.Author.Needs.{needs}
-use Rattle.memtable.proofs.stop_of.Statement.{statement}
-use Rattle.memtable.proofs.stop_of.Tie as tie
+use Rattle.location_rules.proofs.stop_of.Statement.{statement}
+use Rattle.location_rules.proofs.stop_of.Tie as tie
 
 enum-told : tie.Need-enum-told
 enum-told c = search needs

@@ -6,10 +6,9 @@ use native.Mathlib.Omega.{arith}
 use mathlib.Core.Bool.{Bool, true, false}
 use lib.Dec.{leb}
 use borrow.Author.Tests.{le-leb, lt-leb, leb-true, leb-false}
-use Rattle.memtable.specs.declared.Table.{Table}
-use Rattle.memtable.specs.Table.{indexesFit}
-use Rattle.memtable.specs.Fetching.{fetched}
-use Rattle.memtable.specs.Parts.{wellFormedBy, readyBy}
+use Rattle.location_rules.specs.declared.Table.{Table}
+use Rattle.location_rules.specs.Parts.{indexesFit, wellFormedBy, readyBy}
+use Rattle.location_rules.specs.Decisions.{fetched}
 
 -- two tests that hold together
 same-test : (a b c d : ℕ) → (a ≤ b → c ≤ d) → (b < a → d < c) → leb a b ≡ leb c d

@@ -1,10 +1,10 @@
--- `memtable::run_from` meets its contract: a law for each way out.
+-- `location_rules::run_from` meets its contract: a law for each way out.
 -- Assumes nothing.
 use borrow.Author.Tests.{not-true, not-false}
-use Rattle.memtable.proofs.Forming.{fetched-broken, fetched-run}
+use Rattle.location_rules.proofs.Forming.{fetched-broken, fetched-run}
 use borrow.Author.Needs.{needs}
-use Rattle.memtable.proofs.run_from.Statement.{statement}
-use Rattle.memtable.proofs.run_from.Tie as tie
+use Rattle.location_rules.proofs.run_from.Statement.{statement}
+use Rattle.location_rules.proofs.run_from.Tie as tie
 
 returns : tie.Need-returns
 returns c = fetched-broken _ _ _ _ (not-true _ (c .if1 .taken))

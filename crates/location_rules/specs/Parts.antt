@@ -3,9 +3,12 @@
 use Prim.Native.Nat.{ℕ, _+_, _-_, min}
 use mathlib.Core.Bool.{Bool, _&&_, cond}
 use lib.Dec.{leb, eqb}
-use Rattle.memtable.specs.declared.Table.{Table}
-use Rattle.memtable.specs.declared.Overlap.{Overlap}
-use Rattle.memtable.specs.Table.{indexesFit}
+use Rattle.location_rules.specs.declared.Table.{Table}
+use Rattle.location_rules.specs.declared.Overlap.{Overlap}
+
+-- the last of n indexes from first on is at most 2^64 - 1. An index is below 2^64, so that no rows always fit.
+abbrev pub indexesFit : ℕ → ℕ → Bool
+indexesFit first n = leb (first + n) 18446744073709551616
 
 -- a table of n rows, of which the first in the wrong queue stand at front, before the count, and at back, after it
 unfoldable pub wellFormedBy : Table → ℕ → ℕ → ℕ → Bool

@@ -1,0 +1,4 @@
+pub mod Forming
+pub mod Overlaps
+pub mod Deciding
+pub mod Determined
