@@ -12,7 +12,7 @@ use lib.Seq.{drop-drop, take-add, paste}
 use borrow.Author.Tests.{leb-true}
 use Rattle.pipe_log.specs.declared.Location.{Location}
 use Rattle.memtable.proofs.Queues.{both}
-use Rattle.location_rows.specs.Words.{queueOf, isRow, startsWell, rowOf, areRows, locations, queueWord, rowWords, rowsWords}
+use Rattle.location_rows.specs.Words.{queueOf, startsWell, rowOf, areRows, locations, queueWord, rowWords, rowsWords}
 
 -- the rows that the words make up are all there
 pub room : (n : ℕ) → n / 6 * 6 ≤ n
@@ -84,9 +84,8 @@ queue-back (suc zero) l = refl
 queue-back (suc (suc q)) l = absurd (omega arith)
 
 row-back : (words : List ℕ) → 6 ≤ length words → startsWell words ≡ true → rowWords (rowOf words) ≡ take 6 words
-unfolding isRow
 row-back words l e =
-    rw (queue-back (getD words 0 0) (leb-true (getD words 0 0) 1 (both (leb (getD words 0 0) 1) _ e .0)))
+    rw (queue-back (getD words 0 0) (leb-true (getD words 0 0) 1 e))
     (sym (six words l))
 
 pub rows-back : (n : ℕ) (words : List ℕ) → n * 6 ≤ length words → areRows n words ≡ true → rowsWords (locations n words) ≡ take (n * 6) words

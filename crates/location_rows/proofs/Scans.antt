@@ -16,24 +16,11 @@ use Rattle.location_rules.specs.declared.Stop.{Stop}
 use Rattle.location_rules.specs.Row.{stopsAt}
 use Rattle.memtable.specs.Rows.{runOf}
 use Rattle.memtable.proofs.Runs.{noRow, run-none, stopped, goes-on}
-use Rattle.location_rows.specs.Words.{queueOf, isRow, rowOf, areRows, rowCount}
+use Rattle.location_rows.specs.Words.{queueOf, rowOf, areRows, rowCount}
 use Rattle.location_rows.specs.Private.{rowStart, located}
 use Rattle.location_rows.proofs.Rows.{less-none, locations-length, location-at}
 
 -- ---- one row
-
-module _ (queue offset len : ℕ) where
-  pub queue-wrong : 1 < queue → false ≡ isRow queue offset len
-  unfolding isRow
-  queue-wrong l = rw (lt-leb queue 1 l) refl
-
-  pub offset-wrong : queue ≤ 1 → 4294967295 < offset → false ≡ isRow queue offset len
-  unfolding isRow
-  offset-wrong l m = rw (le-leb queue 1 l, lt-leb offset 4294967295 m) refl
-
-  pub by-length : queue ≤ 1 → offset ≤ 4294967295 → leb len 4294967295 ≡ isRow queue offset len
-  unfolding isRow
-  by-length l m = rw (le-leb queue 1 l, le-leb offset 4294967295 m) refl
 
 pub is-rewrite : (queue : ℕ) → (queue ≡ 0 → ⊥) → LogQueue.Rewrite ≡ queueOf queue
 is-rewrite zero f = absurd (f refl)
@@ -70,11 +57,11 @@ module _ {words : List ℕ} {n i : ℕ} (w : Checked words n i) where
       none : n - i ≡ 0
       none = omega arith
 
-  module _ (l : i < n) {b : Bool} (e : b ≡ isRow (getD words (i * 6) 0) (getD words (i * 6 + 4) 0) (getD words (i * 6 + 5) 0)) where
-    one-more : areRows n words ≡ (b && areRows (n - (i + 1)) (drop ((i + 1) * 6) words))
+  module _ (l : i < n) where
+    one-more : areRows n words ≡ (leb (getD words (i * 6) 0) 1 && areRows (n - (i + 1)) (drop ((i + 1) * 6) words))
     one-more =
         w .left ∙ ap (λ (m : ℕ). areRows m (drop (i * 6) words)) some
-        ∙ (rw (at-start words (i * 6), getD-drop (i * 6) words 4 0, getD-drop (i * 6) words 5 0, drop-drop 6 (i * 6) words, next, e) refl)
+        ∙ (rw (at-start words (i * 6), drop-drop 6 (i * 6) words, next) refl)
       where
         some : n - i ≡ suc (n - (i + 1))
         some = omega arith
@@ -82,11 +69,11 @@ module _ {words : List ℕ} {n i : ℕ} (w : Checked words n i) where
         next : i * 6 + 6 ≡ (i + 1) * 6
         next = omega arith
 
-    pub checked-broken : b ≡ false → false ≡ areRows n words
-    checked-broken f = sym (one-more ∙ (rw f refl))
+    pub checked-broken : 1 < getD words (i * 6) 0 → false ≡ areRows n words
+    checked-broken m = sym (one-more ∙ (rw (lt-leb (getD words (i * 6) 0) 1 m) refl))
 
-    pub checked-next : b ≡ true → Checked words n (i + 1)
-    checked-next f = record { within = omega arith; left = one-more ∙ (rw f refl) }
+    pub checked-next : getD words (i * 6) 0 ≤ 1 → Checked words n (i + 1)
+    checked-next m = record { within = omega arith; left = one-more ∙ (rw (le-leb (getD words (i * 6) 0) 1 m) refl) }
 
 -- ---- where a run ends
 

@@ -17,7 +17,7 @@ use Rattle.memtable.specs.Table.{wellFormed}
 use Rattle.location_rules.specs.Decisions.{unchanged}
 use Rattle.memtable.specs.Rewriting.{rewriteOf, rowsAfter}
 use Rattle.memtable.proofs.Theorems.{refused-kept}
-use Rattle.location_rows.specs.Words.{isRow, startsWell, rowOf, areRows, rowCount, Rows, rows, broken, rowsOf, queueOf, queueWord, rowWords, rowsWords}
+use Rattle.location_rows.specs.Words.{startsWell, rowOf, areRows, rowCount, Rows, rows, broken, rowsOf, queueOf, queueWord, rowWords, rowsWords}
 use Rattle.location_rows.specs.Answers.{inReach, limited, rewriteRows, rowsAfterwards, Kept}
 use Rattle.location_rows.specs.Private.{located}
 use Rattle.location_rows.proofs.Rows.{room, rows-back}
@@ -29,10 +29,9 @@ queue-again LogQueue.Append = (refl, refl)
 queue-again LogQueue.Rewrite = (refl, refl)
 
 -- A location's words are a row, and the row is that location.
-pub row-again : (x : Location) → x .«entry_offset» ≤ 4294967295 → x .«entry_len» ≤ 4294967295 → (startsWell (rowWords x) ≡ true) × (rowOf (rowWords x) ≡ x)
-unfolding isRow
-row-again x l m = (
-  rw (queue-again (x .queue) .0, le-leb (x .«entry_offset») 4294967295 l, le-leb (x .«entry_len») 4294967295 m) refl,
+pub row-again : (x : Location) → (startsWell (rowWords x) ≡ true) × (rowOf (rowWords x) ≡ x)
+row-again x = (
+  queue-again (x .queue) .0,
   ap
       (λ (q : LogQueue).
       record { queue = q; seq = x .seq; offset = x .offset; len = x .len; «entry_offset» = x .«entry_offset»; «entry_len» = x .«entry_len» })

@@ -11,18 +11,14 @@ use Rattle.pipe_log.specs.declared.LogQueue.{LogQueue}
 
 -- ---- from words to locations
 
--- 0 append, 1 rewrite
+-- 0 append, else rewrite; the queue of a row is at most 1
 abbrev pub queueOf : ℕ → LogQueue
 queueOf zero = LogQueue.Append
 queueOf (suc q) = LogQueue.Rewrite
 
--- a queue, and an entry offset and length of 32 bits
-unfoldable pub isRow : ℕ → ℕ → ℕ → Bool
-isRow queue offset len = leb queue 1 && (leb offset 4294967295 && leb len 4294967295)
-
--- the row that the words begin with: whether it is one, and its location if so
+-- the row that the words begin with: whether it is a location's, which its queue alone decides, and its location if so
 abbrev pub startsWell : List ℕ → Bool
-startsWell words = isRow (getD words 0 0) (getD words 4 0) (getD words 5 0)
+startsWell words = leb (getD words 0 0) 1
 
 abbrev pub rowOf : List ℕ → Location
 rowOf words =

@@ -6,7 +6,7 @@ ghost use lib.ListN.{length, take, drop};
 ghost use lib.Seq.{paste};
 ghost use Rattle.location_rules.specs.Row.{stopsAt};
 ghost use Rattle.memtable.specs.Rows.{runOf};
-ghost use Rattle.location_rows.specs.Words.{rowCount, queueOf, isRow, areRows};
+ghost use Rattle.location_rows.specs.Words.{rowCount, queueOf, areRows};
 ghost use Rattle.location_rows.specs.Answers.{tableOf, limited, RowsRewritten, fetchWords};
 ghost use Rattle.location_rows.specs.Private.{rowStart, located, formedWords, readyWords};
 use location_rules::Fetched;
@@ -112,25 +112,12 @@ fn are_rows(words: &[u64]) -> bool
     let n = words.len() / 6;
     let mut i: usize = 0;
     while i < n {
-        let at = i * 6;
-        if !is_row(words[at], words[at + 4], words[at + 5]) {
+        if 1 < words[i * 6] {
             return false;
         }
         i = i + 1;
     }
     true
-}
-
-fn is_row(queue: u64, offset: u64, len: u64) -> bool
-    ensures { λ r. ⌜ r ≡ isRow queue offset len ⌝ }
-{
-    if 1 < queue {
-        return false;
-    }
-    if 4294967295 < offset {
-        return false;
-    }
-    len <= 4294967295
 }
 
 // Where the first row that stops the run stands, from lo on and before hi, or hi.
