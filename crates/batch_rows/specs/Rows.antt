@@ -24,7 +24,7 @@ use Rattle.batch_rows.specs.declared.BatchCheck.{BatchCheck}
 use Rattle.log_batch.specs.Batch.{blockOf, bodyOf, sealedBatch}
 use Rattle.log_batch.specs.Written.{framed, batchEncoded}
 
--- what a batch comes to: its items, where they come to the block's content
+-- what a batch comes to: its items, where their entries come to the block's content, else 20
 abbrev pub batchAnswer : List ℕ → Got LogBatch → Answer
 batchAnswer s (got h q) = agreeing (Exactly (contentLength (blockOf h s))) (readItems Any (sealedPart (bodyOf h s)))
 batchAnswer s (refused r) = rejected r 0

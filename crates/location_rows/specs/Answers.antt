@@ -36,7 +36,7 @@ rewriteRows broken t incoming first gate = unchanged 26 t
 rewriteRows (rows xs) t broken first gate = cond (wellFormed xs t) (unchanged 27 t) (unchanged 26 t)
 rewriteRows (rows xs) t (rows ys) first gate = limited (length xs) (length ys) t (rewriteOf xs t ys first gate)
 
--- the words of the rows after the rewrite, then what stood there
+-- the words of the rows after the rewrite, then what stood there; the words as they were where a row is no location's or there are more than 64
 abbrev pub rowsAfterwards : Rows → Table → Rows → ℕ → Gate → List ℕ → List ℕ
 rowsAfterwards broken t incoming first gate words = words
 rowsAfterwards (rows xs) t broken first gate words = words

@@ -1,5 +1,4 @@
--- How a location stands in a row of six words: queue, file number, block place, block length, entry offset, entry length. The layout is that of
--- raft_log.h.
+-- How a location stands in a row of six words. The layout is that of raft_log.h.
 -- Assumes nothing.
 use Prim.Native.Nat.{ℕ, zero, suc, _/_}
 use mathlib.Core.Bool.{Bool, true, _&&_, cond}

@@ -1,5 +1,5 @@
-// The rewrite and the fetch of locations, on rows of six words that the caller lends: queue (0 append, 1 rewrite), file number, block place,
-// block length, entry offset, entry length. Words that do not make up a whole row at the end are not looked at and not written.
+// The rewrite and the fetch of locations, on rows of six words that the caller lends, laid out as raft_log.h says. Words that do not make up a
+// whole row at the end are not looked at and not written.
 ghost use mathlib.Core.Path.{_≡_};
 ghost use Prim.Native.Nat.{_+_, _-_, _≤_};
 ghost use lib.ListN.{length, take, drop};
@@ -17,8 +17,8 @@ use location_rules::Table;
 use pipe_log::Location;
 use pipe_log::LogQueue;
 
-// Replaces the rows that overlap the incoming ones. More than 64 rows of either: 21, after every other check. A refused rewrite changes no
-// word, and answers 0 and the old count.
+// Replaces rows of a table by incoming ones, up to the first stop. More than 64 rows of either: 21, after every other check. A refused
+// rewrite changes no word, and answers 0 and the old count.
 pub fn rewrite(
     table: &mut [u64],
     first_index: u64,

@@ -42,7 +42,7 @@ sealedBatch s signature = do
   passes (sealCheck (bodyOf h s) signature)
   done h
 
--- the table of a batch: its items, where they come to the block's content, with the places of body and block
+-- the table of a batch: its items, where their entries come to the block's content, else 20, with the places of body and block
 abbrev pub batchTable : List ℕ → Got LogBatch → LogItemBatch
 batchTable s (got h q) =
     tableOf (record { at = h .offset; len = h .len - h .offset }) (record { at = 16; len = h .offset - 16 })

@@ -1,4 +1,4 @@
--- The reply for each answer of the crates below: what is refused has its number, and no words but the item.
+-- The reply for each answer of the crates below: a refusal has its number, and 0 in each word but the item's.
 -- Assumes nothing.
 use Prim.Native.Nat.{ℕ, zero, suc}
 use mathlib.Core.Bool.{cond}
@@ -62,7 +62,7 @@ abbrev pub viewReply : ℕ → ℕ → ℕ → Reply
 viewReply zero offset len = reply 0 (offset ∷ len ∷ [])
 viewReply (suc r) offset len = reply (suc r) (0 ∷ 0 ∷ [])
 
--- a location row: queue, file number, block place, block length, entry offset, entry length
+-- the same of a location row
 unfoldable pub viewOf : List ℕ → List ℕ → List ℕ → Reply
 viewOf row append rewrite =
     viewReply (queueCheck (getD row 0 0) (getD row 3 0) (getD row 4 0) (getD row 5 0) append rewrite) (getD row 4 0) (getD row 5 0)
@@ -73,13 +73,13 @@ markOf Begin = 1
 markOf Middle = 2
 markOf End = 3
 
--- the mark, or 0, and the group
+-- the mark and its group; 0 and 0 where there is none
 abbrev pub statusReply : StatusRead → Reply
 statusReply (status.Mark group mark) = reply 0 (markOf mark ∷ group ∷ [])
 statusReply status.NoMark = reply 0 (0 ∷ 0 ∷ [])
 statusReply (status.Refused r) = reply (r .number) (0 ∷ 0 ∷ [])
 
--- of a row that may spell no item
+-- the same of an item row; a row that is no item has its refusal
 unfoldable pub rowStatus : RowRead → List ℕ → Reply
 rowStatus (row.Item x) store = statusReply (statusOf x (x .content) store)
 rowStatus (row.Refused r) store = reply r (0 ∷ 0 ∷ [])
