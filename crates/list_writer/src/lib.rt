@@ -21,6 +21,7 @@ ghost use Rattle.list_writer.specs.Refusing.{fine};
 ghost use Rattle.list_writer.specs.Answers.{measured, measuredOf, measureOf, encoded, encodedOf, laid};
 use codec::Wrote;
 use item_writer::Head;
+use item_writer::PartWrote;
 use log_item::EntryIndex;
 use log_item::LogItem;
 
@@ -190,8 +191,8 @@ fn write_head(item: LogItem, store: &[u8], out: &mut [u8], at: usize) -> usize
     ensures { λ r. ⌜ Stored (now (out .entry)) at (headBytes (now (store .entry)) item) r (now (out .exit)) ⌝ }
 {
     match item_writer::encode_head(item, store, out, at) {
-        Wrote::Next(next) => next,
-        Wrote::NoRoom => at,
+        PartWrote::Next(next) => next,
+        PartWrote::Refused(_) => at,
     }
 }
 
