@@ -9,7 +9,7 @@ use lib.Dec.{leb}
 use lib.ListN.{length, set, length-append}
 use lib.Seq.{sets, length-sets, sets-eq}
 use borrow.Author.Tests.{le-leb, lt-leb, leb-true, leb-false}
-use Rattle.codec.specs.Write.{wroteAt, placed}
+use Rattle.codec.specs.Write.{wroteAt, nextAt, placed}
 use Rattle.codec.specs.declared.Wrote.{Wrote}
 use Rattle.codec.specs.declared.Wrote.the-variants.{Next, NoRoom}
 use Rattle.codec.proofs.Writing.{room-for}
@@ -71,6 +71,11 @@ module _ {out later : List ℕ} {at : ℕ} {bs : List ℕ} {r : Wrote} (h : Room
       let z : _≡_ {A = ℕ} 0 1 = cc in
       absurd (omega arith)
 
+pub stored-at : {out later : List ℕ} {at next : ℕ} {bs : List ℕ} → Room out at bs → (next ≡ nextAt out at bs) × (later ≡ placed out at bs) → Stored out at bs next later
+unfolding nextAt
+stored-at {out} {later} {at} {next} {bs} h p =
+    record { after = simp (le-leb _ _ (h .fits)) at (p .0); stored = (simp (le-leb _ _ (h .fits)) at (p .1)) ∙ sym (sets-eq bs out at (h .fits)) }
+
 -- A length, none above the largest number, tells whether bytes fit: no buffer is that long.
 module _ (out bs : List ℕ) (at : ℕ) {n l : ℕ} {r : Bool} (small : length out < 18446744073709551615) (e : length bs ≡ n) (g : l ≡ fitted n) (t : r ≡ leb (at + l) (length out)) where
   pub room-told : r ≡ true → Room out at bs
@@ -88,7 +93,7 @@ refused-part zero next out at bs h = absurd (h refl)
 refused-part (suc r) next out at bs h = (refl, refl)
 
 -- Bytes for which there is room are not refused.
-none-refused : {b : Bool} {out bs : List ℕ} {at : ℕ} → b ≡ true → Room out at bs → pieceRefusal b at (length bs) (length out) ≡ 0
+pub none-refused : {b : Bool} {out bs : List ℕ} {at : ℕ} → b ≡ true → Room out at bs → pieceRefusal b at (length bs) (length out) ≡ 0
 unfolding pieceRefusal
 none-refused i h = rw (i, le-leb _ _ (h .fits))
 
@@ -122,18 +127,3 @@ module _ (b : Bool) (out bs : List ℕ) (at : ℕ) {d : Bool} {n l r : ℕ} (sma
     piece-stored {next} {later} w =
         let p = room-for out at bs later next (piece-ready .1 .fits) (w .stored, w .after) in
         rw (← same-refusal, z) (ap part.Next (w .after), p .1)
-
--- What a call that had room did, where the spans lie in the store.
-module _ {b : Bool} {out later bs : List ℕ} {at : ℕ} {r : PartWrote} (i : b ≡ true) (h : Room out at bs) (p : Answered b out at bs r later) where
-  pub part-took : {n : ℕ} → r ≡ part.Next n → Stored out at bs n later
-  part-took {n} e =
-      let q : (r ≡ part.Next (at + length bs)) × (later ≡ placed out at bs) = rw (none-refused i h) at p in
-      let f = q .0 in
-      record { after = cc; stored = (simp (le-leb _ _ (h .fits)) at (q .1)) ∙ sym (sets-eq bs out at (h .fits)) }
-
-  pub part-never : {m n : ℕ} → r ≡ part.Refused m → Stored out at bs n later
-  part-never e =
-      let q : (r ≡ part.Next (at + length bs)) × (later ≡ placed out at bs) = rw (none-refused i h) at p in
-      let f = q .0 in
-      let z : _≡_ {A = ℕ} 0 1 = cc in
-      absurd (omega arith)

@@ -9,7 +9,6 @@ ghost use mathlib.Core.Bool.{true};
 ghost use mathlib.Core.List.{[], _∷_};
 ghost use Prim.Native.Nat.{_+_, _≤_};
 ghost use lib.ListN.{length, take};
-ghost use Rattle.codec.specs.Shortest.{shortest};
 ghost use Rattle.log_item.specs.Entries.{typeOf};
 ghost use Rattle.log_item.specs.Prefix.{bytesOf};
 ghost use Rattle.item_writer.specs.Bytes.{spanBytes, commandBytes, entriesBytes, opBytes, contentBytes, headBytes, tailsBytes};
@@ -62,7 +61,7 @@ pub fn measure(item: LogItem, store: &[u8], checked: bool, used: usize, rows: us
     }
     let entries = item.entries();
     Head::Fine {
-        len: measuring::least(measuring::head_len(item), 4294967296),
+        len: codec::least(measuring::head_len(item), 4294967296),
         count: entries.count,
     }
 }
@@ -176,7 +175,7 @@ fn put_head(item: LogItem, store: &[u8], out: &mut [u8], at: usize) -> usize
     ensures { λ r. ⌜ Stored (now (out .entry)) at (headBytes (now (store .entry)) item) r (now (out .exit)) ⌝ }
 {
     let content = item.content;
-    let next = put_number(item.raft_group_id, out, at);
+    let next = codec::put_var_u64(item.raft_group_id, out, at);
     put_content(content, store, out, next)
 }
 
@@ -206,11 +205,11 @@ fn put_entries(e: EntryIndexes, out: &mut [u8], at: usize) -> usize
     ensures { λ r. ⌜ Stored (now (out .entry)) at (entriesBytes (e .count) (e .«first_index»)) r (now (out .exit)) ⌝ }
 {
     let count = e.count;
-    let next = put_number(count as u64, out, at);
+    let next = codec::put_var_u64(count as u64, out, at);
     if count == 0 {
         return next;
     }
-    put_number(e.first_index, out, next)
+    codec::put_var_u64(e.first_index, out, next)
 }
 
 fn put_command(c: Command, out: &mut [u8], at: usize) -> usize
@@ -221,7 +220,7 @@ fn put_command(c: Command, out: &mut [u8], at: usize) -> usize
         Command::Clean => put_byte(1, out, at),
         Command::Compact { index } => {
             let next = put_byte(2, out, at);
-            put_number(index, out, next)
+            codec::put_var_u64(index, out, next)
         }
     }
 }
@@ -249,7 +248,7 @@ fn put_span(span: Span, store: &[u8], out: &mut [u8], at: usize) -> usize
     requires { ⌜ (inside (now store) span ≡ true) × (Room (now out) at (spanBytes (now store) span)) ⌝ }
     ensures { λ r. ⌜ Stored (now (out .entry)) at (spanBytes (now (store .entry)) span) r (now (out .exit)) ⌝ }
 {
-    let next = put_number(span.len as u64, out, at);
+    let next = codec::put_var_u64(span.len as u64, out, at);
     put_part(span, store, out, next)
 }
 
@@ -275,20 +274,10 @@ fn put_tails(lengths: &[u32], count: usize, before: u32, out: &mut [u8], start: 
     let mut i = 0;
     while i < count {
         total += lengths[i];
-        at = put_number(total as u64, out, at);
+        at = codec::put_var_u64(total as u64, out, at);
         i += 1;
     }
     at
-}
-
-fn put_number(n: u64, out: &mut [u8], at: usize) -> usize
-    requires { ⌜ Room (now out) at (shortest n) ⌝ }
-    ensures { λ r. ⌜ Stored (now (out .entry)) at (shortest n) r (now (out .exit)) ⌝ }
-{
-    match codec::encode_var_u64(n, out, at) {
-        Wrote::Next(next) => next,
-        Wrote::NoRoom => at,
-    }
 }
 
 fn put_byte(b: u8, out: &mut [u8], at: usize) -> usize
