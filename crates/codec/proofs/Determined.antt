@@ -9,6 +9,10 @@ use Rattle.codec.proofs.var_u64_len.Kinds as len-kinds
 use Rattle.codec.proofs.var_u64_len.Reads as len-reads
 use Rattle.codec.proofs.encode_var_u64.Kinds as encode-kinds
 use Rattle.codec.proofs.encode_var_u64.Reads as encode-reads
+use Rattle.codec.proofs.put_var_u64.Kinds as put-kinds
+use Rattle.codec.proofs.put_var_u64.Reads as put-reads
+use Rattle.codec.proofs.least.Kinds as least-kinds
+use Rattle.codec.proofs.least.Reads as least-reads
 use Rattle.codec.proofs.decode_u64.Kinds as decode-u64-kinds
 use Rattle.codec.proofs.decode_u64.Reads as decode-u64-reads
 use Rattle.codec.proofs.encode_u64.Kinds as encode-u64-kinds
@@ -25,6 +29,12 @@ decode-var-u64 κs a x y s t p q = p ∙ sym q
 
 pub var-u64-len : OneAnswer 0 len-kinds.ps len-kinds.r len-reads.Post (λ κs x y s t. x ≡ y)
 var-u64-len κs a x y s t p q = p ∙ sym q
+
+pub least : OneAnswer 0 least-kinds.ps least-kinds.r least-reads.Post (λ κs x y s t. x ≡ y)
+least κs a x y s t p q = p ∙ sym q
+
+pub put-var-u64 : OneAnswer 1 put-kinds.ps put-kinds.r put-reads.Post (λ κs x y s t. (x ≡ y) × (now (s .1 .0) ≡ now (t .1 .0)))
+put-var-u64 κs a x y s t p q = (p .0 ∙ sym (q .0), p .1 ∙ sym (q .1))
 
 pub encode-var-u64 : OneAnswer 1 encode-kinds.ps encode-kinds.r encode-reads.Post (λ κs x y s t. (x ≡ y) × (now (s .1 .0) ≡ now (t .1 .0)))
 encode-var-u64 κs a x y s t p q = (p .0 ∙ sym (q .0), p .1 ∙ sym (q .1))

@@ -2,15 +2,17 @@
 -- Assumes nothing.
 use Prim.Native.Nat.{ℕ, zero, suc, _+_, _*_, _/_, _%_, _^_, _≤_, _<_, zero-le}
 use mathlib.Core.Path.{_≡_, refl, sym, ap, _∙_}
+use mathlib.Core.Bool.{Bool, true, false, cond}
 use mathlib.Core.List.{List, [], _∷_}
 use native.Mathlib.Omega.{arith}
 use native.Mathlib.Nat.{add-zero, add-suc}
 use native.Mathlib.Numerals.{add-one}
+use lib.Dec.{leb}
 use lib.ListN.{length, getD, drop, set, length-set, drop-of-length-le}
 use lib.Seq.{sets, sets-eq, drop-cons}
 use borrow.Author.Tests.{le-leb, lt-leb}
 use Rattle.codec.specs.Shortest.{spell, shortest}
-use Rattle.codec.specs.Write.{placed, wroteAt}
+use Rattle.codec.specs.Write.{placed, wroteAt, nextAt}
 use Rattle.codec.specs.declared.Wrote.{Wrote}
 use Rattle.codec.specs.declared.Wrote.the-variants.{Next, NoRoom}
 use Rattle.codec.proofs.Shortest.{spell-one, spell-more, spell-pos, fewer}
@@ -58,6 +60,24 @@ pub room-for : (out : List ℕ) (at : ℕ) (bs : List ℕ) (r : List ℕ) (next 
     → (Next next ≡ wroteAt out at bs) × (r ≡ placed out at bs)
 room-for out at bs r next h e =
     (simp (le-leb _ _ h) (ap Next (e .1)), simp (le-leb _ _ h) (e .0 ∙ sets-eq bs out at h))
+
+-- The place alone.
+module _ (out : List ℕ) (at : ℕ) (bs : List ℕ) {w : Wrote} (e : w ≡ wroteAt out at bs) where
+  pub next-of : {n : ℕ} → w ≡ Next n → n ≡ nextAt out at bs
+  unfolding nextAt
+  next-of {n} h = go (leb (at + length bs) (length out)) (sym h ∙ e)
+    where
+      go : (b : Bool) → Next n ≡ cond b (Next (at + length bs)) NoRoom → n ≡ cond b (at + length bs) at
+      go true k = cc
+      go false k = absurd (let z : _≡_ {A = ℕ} 0 1 = cc in omega arith)
+
+  pub place-of : w ≡ NoRoom → at ≡ nextAt out at bs
+  unfolding nextAt
+  place-of h = go (leb (at + length bs) (length out)) (sym h ∙ e)
+    where
+      go : (b : Bool) → NoRoom ≡ cond b (Next (at + length bs)) NoRoom → at ≡ cond b (at + length bs) at
+      go true k = absurd (let z : _≡_ {A = ℕ} 0 1 = cc in omega arith)
+      go false k = refl
 
 -- ---- all of a slice
 

@@ -9,7 +9,7 @@ ghost use lib.ListN.{length, getD};
 ghost use Rattle.codec.specs.Number.{readNumber};
 ghost use Rattle.codec.specs.Shortest.{shortest};
 ghost use Rattle.codec.specs.Word.{bigEndian, littleEndian, bigEndianBytes, littleEndianBytes, readU64, readU32};
-ghost use Rattle.codec.specs.Write.{wroteAt, placed};
+ghost use Rattle.codec.specs.Write.{wroteAt, nextAt, placed};
 
 // What stands at a place: a number and the place after it; or the bytes end inside or before it; or its tenth byte is above 1.
 pub enum NumberRead {
@@ -72,6 +72,16 @@ fn encode_long(n: u64, out: &mut [u8], at: usize) -> Wrote
     }
     out[i] = left as u8;
     Wrote::Next(i + 1)
+}
+
+// Writes the same and answers the place after it, or the place itself where it does not fit.
+pub fn put_var_u64(n: u64, out: &mut [u8], at: usize) -> usize
+    ensures { λ r. ⌜ (r ≡ nextAt (now (out .entry)) at (shortest n)) × (now (out .exit) ≡ placed (now (out .entry)) at (shortest n)) ⌝ }
+{
+    match encode_var_u64(n, out, at) {
+        Wrote::Next(next) => next,
+        Wrote::NoRoom => at,
+    }
 }
 
 // The length of the shortest spelling of n.
@@ -266,4 +276,11 @@ fn wide(b: u8) -> u64
     ensures { λ r. ⌜ r ≡ b ⌝ }
 {
     b as u64
+}
+
+// The lesser of two.
+pub fn least(a: usize, b: usize) -> usize
+    ensures { λ r. ⌜ r ≡ min a b ⌝ }
+{
+    if a < b { a } else { b }
 }

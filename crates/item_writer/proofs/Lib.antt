@@ -1,6 +1,6 @@
-pub mod Stores
 pub mod Lengths
 pub mod Refusals
+pub mod Stores
 pub mod Pieces
 pub mod Tails
 pub mod Items

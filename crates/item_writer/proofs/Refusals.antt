@@ -5,8 +5,9 @@ use mathlib.Core.Path.{_≡_, refl, sym, _∙_}
 use mathlib.Core.Bool.{Bool, true, false, cond, _&&_}
 use mathlib.Core.List.{List}
 use native.Mathlib.Omega.{arith}
-use lib.Dec.{ltb}
+use lib.Dec.{ltb, leb}
 use borrow.Author.Tests.{ltb-false, lt-ltb, le-ltb}
+use Rattle.refusal.specs.First.{firstOf}
 use Rattle.log_item.specs.Entries.{entriesOf}
 use Rattle.log_item.specs.Prefix.{prefix, begins, bytesOf}
 use Rattle.log_item.specs.declared.Span.{Span}
@@ -19,7 +20,8 @@ use Rattle.log_item.specs.declared.LogItemContent.{LogItemContent}
 use Rattle.log_item.specs.declared.LogItemContent.the-variants as contents
 use Rattle.item_writer.proofs.Lengths.{and-both}
 use Rattle.log_item.specs.Prefix.{inside}
-use Rattle.item_writer.specs.Refusing.{opInside, contentInside, entriesRefusal, keyRefusal, contentRefusal}
+use Rattle.item_writer.specs.Refusing.{opInside, spanRefusal, contentInside, entriesRefusal, keyRefusal, contentRefusal}
+use Rattle.item_writer.specs.Answers.{pieceRefusal}
 
 module _ (used rows : ℕ) (e : EntryIndexes) where
   pub entries-14 : 1024 < used + e .count → 14 ≡ entriesRefusal used rows e
@@ -74,28 +76,20 @@ module _ (s : List ℕ) (k : LogItemContent) {v : KeyValue} (p : k ≡ contents.
 module _ (s : List ℕ) (checked : Bool) (key : Span) (op : Op) where
   pub key-13 : opInside s key op ≡ false → 13 ≡ keyRefusal s checked key op
   unfolding keyRefusal
-  key-13 h = go op h
-    where
-      both : (a b : Bool) (n : ℕ) → (a && b) ≡ false → 13 ≡ cond a (cond b n 13) 13
-      both true b n e = rw e
-      both false b n e = refl
-
-      go : (o : Op) → opInside s key o ≡ false → 13 ≡ keyRefusal s checked key o
-      go (Put v) e = both (inside s key) (inside s v) _ e
-      go Del e = rw e
+  key-13 h = rw h
 
   module _ (h : opInside s key op ≡ true) where
     pub key-delete : op ≡ Del → 0 ≡ keyRefusal s checked key op
     unfolding keyRefusal
-    key-delete e = let k : opInside s key Del ≡ true = rw e at h in rw (e, k)
+    key-delete e = rw (h, e)
 
     pub key-23 : {v : Span} {r : Bool} → op ≡ Put v → r ≡ (checked && begins (bytesOf s key) prefix) → r ≡ true → 23 ≡ keyRefusal s checked key op
     unfolding keyRefusal
-    key-23 {v} e p q = let k = put-both s key op e h in let z : (checked && begins (bytesOf s key) prefix) ≡ true = sym p ∙ q in rw (e, k .0, k .1, z)
+    key-23 {v} e p q = let z : (checked && begins (bytesOf s key) prefix) ≡ true = sym p ∙ q in rw (h, e, z)
 
     pub key-fine : {v : Span} {r : Bool} → op ≡ Put v → r ≡ (checked && begins (bytesOf s key) prefix) → r ≡ false → 0 ≡ keyRefusal s checked key op
     unfolding keyRefusal
-    key-fine {v} e p q = let k = put-both s key op e h in let z : (checked && begins (bytesOf s key) prefix) ≡ false = sym p ∙ q in rw (e, k .0, k .1, z)
+    key-fine {v} e p q = let z : (checked && begins (bytesOf s key) prefix) ≡ false = sym p ∙ q in rw (h, e, z)
 
 module _ (s : List ℕ) (checked : Bool) (used rows : ℕ) (k : LogItemContent) where
   pub entries-refused : {e : EntryIndexes} {r : ℕ} → k ≡ contents.EntryIndexes e → r ≡ entriesRefusal used rows e → r ≡ contentRefusal s checked used rows k
@@ -110,14 +104,29 @@ module _ (s : List ℕ) (checked : Bool) (used rows : ℕ) (k : LogItemContent) 
   unfolding contentRefusal
   key-refused p q = rw p q
 
+-- A piece of an item.
+module _ (lies : Bool) (at n all : ℕ) where
+  pub piece-13 : lies ≡ false → 13 ≡ pieceRefusal lies at n all
+  unfolding pieceRefusal
+  piece-13 h = rw h
+
+  pub piece-21 : lies ≡ true → leb (at + n) all ≡ false → 21 ≡ pieceRefusal lies at n all
+  unfolding pieceRefusal
+  piece-21 h k = rw (h, k)
+
+  pub piece-fits : lies ≡ true → leb (at + n) all ≡ true → 0 ≡ pieceRefusal lies at n all
+  unfolding pieceRefusal
+  piece-fits h k = rw (h, k)
+
 -- A test that refuses did not.
 pub untaken : (t : Bool) (r rest : ℕ) → cond t (suc r) rest ≡ 0 → (t ≡ false) × (rest ≡ 0)
 untaken true r rest e = absurd (omega arith)
 untaken false r rest e = (refl, e)
 
-pub taken : (t : Bool) (r rest : ℕ) → cond t rest (suc r) ≡ 0 → (t ≡ true) × (rest ≡ 0)
-taken true r rest e = (refl, e)
-taken false r rest e = absurd (omega arith)
+-- Spans that are not refused lie in the store, and what follows does not refuse.
+pub all-inside : (b : Bool) (rest : ℕ) → firstOf (spanRefusal b) rest ≡ 0 → (b ≡ true) × (rest ≡ 0)
+all-inside true rest e = (refl, e)
+all-inside false rest e = absurd (omega arith)
 
 module _ (s : List ℕ) (checked : Bool) (used rows : ℕ) where
   -- What holds of the entries of a content that is not refused.
@@ -130,15 +139,7 @@ module _ (s : List ℕ) (checked : Bool) (used rows : ℕ) where
   unfolding contentRefusal keyRefusal
   content-inside (contents.EntryIndexes e) h = refl
   content-inside (contents.Command c) h = refl
-  content-inside (contents.Kv k) h = go (k .op) h
-    where
-      go : (o : Op) → keyRefusal s checked (k .key) o ≡ 0 → opInside s (k .key) o ≡ true
-      go (Put v) g =
-          let c : ℕ = cond (checked && begins (bytesOf s (k .key)) prefix) 23 0 in
-          let a = taken (inside s (k .key)) 12 (cond (inside s v) c 13) g in
-          let b = taken (inside s v) 12 c (a .1) in
-          rw (a .0, b .0)
-      go Del g = taken (inside s (k .key)) 12 0 g .0
+  content-inside (contents.Kv k) h = all-inside (opInside s (k .key) (k .op)) _ h .0
 
   pub content-allowed : (k : LogItemContent) → contentRefusal s checked used rows k ≡ 0 → Allowed (entriesOf k)
   unfolding contentRefusal entriesRefusal

@@ -1,20 +1,23 @@
 -- Runs of stores, one after the other, and what a function that tests for room answers.
 -- Assumes nothing.
-use Prim.Native.Nat.{ℕ, suc, _+_, _≤_, _<_}
+use Prim.Native.Nat.{ℕ, zero, suc, _+_, _≤_, _<_}
 use mathlib.Core.Path.{_≡_, refl, sym, ap, _∙_}
-use mathlib.Core.Bool.{Bool, true, false}
+use mathlib.Core.Bool.{Bool, true, false, cond}
 use mathlib.Core.List.{List, [], _∷_, _++_}
 use native.Mathlib.Omega.{arith}
 use lib.Dec.{leb}
 use lib.ListN.{length, set, length-append}
 use lib.Seq.{sets, length-sets, sets-eq}
-use borrow.Author.Tests.{le-leb, leb-true, leb-false}
-use Rattle.codec.specs.Write.{wroteAt, placed}
+use borrow.Author.Tests.{le-leb, lt-leb, leb-true, leb-false}
+use Rattle.codec.specs.Write.{wroteAt, nextAt, placed}
 use Rattle.codec.specs.declared.Wrote.{Wrote}
 use Rattle.codec.specs.declared.Wrote.the-variants.{Next, NoRoom}
-use Rattle.codec.proofs.Writing.{no-room, room-for}
-use Rattle.item_writer.specs.Answers.{wroteIf, placedIf}
+use Rattle.codec.proofs.Writing.{room-for}
+use Rattle.item_writer.specs.declared.PartWrote.{PartWrote}
+use Rattle.item_writer.specs.declared.PartWrote.the-variants as part
+use Rattle.item_writer.specs.Answers.{pieceRefusal, partWrote, itemPlaced}
 use Rattle.item_writer.specs.Private.{Room, Stored, fitted}
+use Rattle.item_writer.proofs.Refusals.{all-inside}
 
 sets-append : (bs cs out : List ℕ) (at : ℕ) → sets out at (bs ++ cs) ≡ sets (sets out at bs) (at + length bs) cs
 sets-append [] cs out at = let e : at ≡ at + 0 = omega arith in ap (λ (k : ℕ). sets out k cs) e
@@ -68,6 +71,11 @@ module _ {out later : List ℕ} {at : ℕ} {bs : List ℕ} {r : Wrote} (h : Room
       let z : _≡_ {A = ℕ} 0 1 = cc in
       absurd (omega arith)
 
+pub stored-at : {out later : List ℕ} {at next : ℕ} {bs : List ℕ} → Room out at bs → (next ≡ nextAt out at bs) × (later ≡ placed out at bs) → Stored out at bs next later
+unfolding nextAt
+stored-at {out} {later} {at} {next} {bs} h p =
+    record { after = simp (le-leb _ _ (h .fits)) at (p .0); stored = (simp (le-leb _ _ (h .fits)) at (p .1)) ∙ sym (sets-eq bs out at (h .fits)) }
+
 -- A length, none above the largest number, tells whether bytes fit: no buffer is that long.
 module _ (out bs : List ℕ) (at : ℕ) {n l : ℕ} {r : Bool} (small : length out < 18446744073709551615) (e : length bs ≡ n) (g : l ≡ fitted n) (t : r ≡ leb (at + l) (length out)) where
   pub room-told : r ≡ true → Room out at bs
@@ -76,14 +84,46 @@ module _ (out bs : List ℕ) (at : ℕ) {n l : ℕ} {r : Bool} (small : length o
   pub short-told : r ≡ false → length out < at + length bs
   short-told h = let k : length out < at + l = leb-false _ _ (sym t ∙ h) in omega arith
 
--- The answers of a function that tests first whether spans lie in the store.
-module _ (b : Bool) (out : List ℕ) (at : ℕ) (bs : List ℕ) where
-  pub outside-answer : b ≡ false → (NoRoom ≡ wroteIf b out at bs) × (out ≡ placedIf b out at bs)
-  outside-answer e = (rw e, rw e)
+-- The answers of a function that tests first whether spans lie in the store and whether bytes fit.
+abbrev pub Answered : Bool → List ℕ → ℕ → List ℕ → PartWrote → List ℕ → Type 0
+Answered b out at bs r later = (r ≡ partWrote (pieceRefusal b at (length bs) (length out)) (at + length bs)) × (later ≡ itemPlaced (pieceRefusal b at (length bs) (length out)) out at bs)
 
-  pub short-answer : b ≡ true → length out < at + length bs → (NoRoom ≡ wroteIf b out at bs) × (out ≡ placedIf b out at bs)
-  short-answer e h = let p = no-room out at bs h in (rw e (p .0), rw e (p .1))
+refused-part : (r next : ℕ) (out : List ℕ) (at : ℕ) (bs : List ℕ) → (r ≡ 0 → ⊥) → (part.Refused r ≡ partWrote r next) × (out ≡ itemPlaced r out at bs)
+refused-part zero next out at bs h = absurd (h refl)
+refused-part (suc r) next out at bs h = (refl, refl)
 
-  pub stored-answer : {n : ℕ} {later : List ℕ} → b ≡ true → Room out at bs → Stored out at bs n later
-      → (Next n ≡ wroteIf b out at bs) × (later ≡ placedIf b out at bs)
-  stored-answer {n} {later} e h w = let p = room-for out at bs later n (h .fits) (w .stored, w .after) in (rw e (p .0), rw e (p .1))
+-- Bytes for which there is room are not refused.
+pub none-refused : {b : Bool} {out bs : List ℕ} {at : ℕ} → b ≡ true → Room out at bs → pieceRefusal b at (length bs) (length out) ≡ 0
+unfolding pieceRefusal
+none-refused i h = rw (i, le-leb _ _ (h .fits))
+
+module _ (b : Bool) (out bs : List ℕ) (at : ℕ) {d : Bool} {n l r : ℕ} (small : length out < 18446744073709551615) (e : b ≡ true → length bs ≡ n) (same : d ≡ b)
+    (g : l ≡ fitted n) (t : r ≡ pieceRefusal d at l (length out)) where
+  same-refusal : r ≡ pieceRefusal b at (length bs) (length out)
+  unfolding pieceRefusal
+  same-refusal = t ∙ ap (λ (c : Bool). pieceRefusal c at l (length out)) same ∙ go b e
+    where
+      told : length bs ≡ n → (c : Bool) → leb (at + l) (length out) ≡ c → leb (at + length bs) (length out) ≡ c
+      told f true h = let k : at + l ≤ length out = leb-true _ _ h in le-leb (at + length bs) (length out) (omega arith)
+      told f false h = let k : length out < at + l = leb-false _ _ h in lt-leb (at + length bs) (length out) (omega arith)
+
+      go : (d : Bool) → (d ≡ true → length bs ≡ n) → pieceRefusal d at l (length out) ≡ pieceRefusal d at (length bs) (length out)
+      go true f = rw (told (f refl) (leb (at + l) (length out)) refl)
+      go false f = refl
+
+  pub piece-refused : (r ≡ 0 → ⊥) → Answered b out at bs (part.Refused r) out
+  piece-refused h = rw (← same-refusal) (refused-part r _ out at bs h)
+
+  module _ (z : r ≡ 0) where
+    pub piece-ready : (b ≡ true) × Room out at bs
+    unfolding pieceRefusal
+    piece-ready = let p = all-inside b _ (sym same-refusal ∙ z) in (p .0, record { fits = fits-told (leb (at + length bs) (length out)) refl (p .1) })
+      where
+        fits-told : (c : Bool) → leb (at + length bs) (length out) ≡ c → _≡_ {A = ℕ} (cond c 0 21) 0 → at + length bs ≤ length out
+        fits-told true h k = leb-true _ _ h
+        fits-told false h k = absurd (omega arith)
+
+    pub piece-stored : {next : ℕ} {later : List ℕ} → Stored out at bs next later → Answered b out at bs (part.Next next) later
+    piece-stored {next} {later} w =
+        let p = room-for out at bs later next (piece-ready .1 .fits) (w .stored, w .after) in
+        rw (← same-refusal, z) (ap part.Next (w .after), p .1)

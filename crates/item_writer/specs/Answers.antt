@@ -6,15 +6,15 @@ use mathlib.Core.List.{List, [], _∷_, _++_}
 use lib.Dec.{ltb, leb}
 use lib.ListN.{length, take}
 use Rattle.refusal.specs.First.{firstOf}
-use Rattle.codec.specs.Write.{wroteAt, placed}
-use Rattle.codec.specs.declared.Wrote.{Wrote}
-use Rattle.codec.specs.declared.Wrote.the-variants.{Next, NoRoom}
+use Rattle.codec.specs.Write.{placed}
 use Rattle.log_item.specs.Entries.{entriesOf}
 use Rattle.log_item.specs.declared.LogItem.{LogItem}
 use Rattle.item_writer.specs.Bytes.{headBytes, tailsBytes}
-use Rattle.item_writer.specs.Refusing.{contentRefusal}
+use Rattle.item_writer.specs.Refusing.{spanRefusal, contentRefusal}
 use Rattle.item_writer.specs.declared.Head.{Head}
 use Rattle.item_writer.specs.declared.Head.the-variants as head
+use Rattle.item_writer.specs.declared.PartWrote.{PartWrote}
+use Rattle.item_writer.specs.declared.PartWrote.the-variants as part
 use Rattle.item_writer.specs.declared.ItemWrote.{ItemWrote}
 use Rattle.item_writer.specs.declared.ItemWrote.the-variants as item
 
@@ -31,12 +31,18 @@ unfoldable pub measureItem : List ℕ → Bool → ℕ → ℕ → LogItem → H
 measureItem s checked used rows x =
     headOf (contentRefusal s checked used rows (x .content)) (capped (length (headBytes s x))) (entriesOf (x .content) .count)
 
--- nothing is written where the spans do not lie in the store
-abbrev pub wroteIf : Bool → List ℕ → ℕ → List ℕ → Wrote
-wroteIf b out at bs = cond b (wroteAt out at bs) NoRoom
+-- 21 where n bytes from the place `at` on do not fit among `all`
+abbrev pub roomRefusal : ℕ → ℕ → ℕ → ℕ
+roomRefusal at n all = cond (leb (at + n) all) 0 21
 
-abbrev pub placedIf : Bool → List ℕ → ℕ → List ℕ → List ℕ
-placedIf b out at bs = cond b (placed out at bs) out
+-- of a piece of an item, whose spans lie in the store or not: 13, then 21
+unfoldable pub pieceRefusal : Bool → ℕ → ℕ → ℕ → ℕ
+pieceRefusal lies at n all = firstOf (spanRefusal lies) (roomRefusal at n all)
+
+-- the place after the piece, or the refusal
+abbrev pub partWrote : ℕ → ℕ → PartWrote
+partWrote zero next = part.Next next
+partWrote (suc r) next = part.Refused (suc r)
 
 -- the sum of lengths behind a total
 unfoldable pub sumOf : ℕ → List ℕ → ℕ
@@ -56,13 +62,14 @@ unfoldable pub itemRefusal : List ℕ → LogItem → List ℕ → ℕ → List 
 itemRefusal s x lengths t out at =
     firstOf (contentRefusal s false 0 (length lengths) (x .content))
     (cond (ltb 4294967295 (sumOf t (rowLengths x lengths))) 16
-    (cond (leb (at + length (itemBytes s x lengths t)) (length out)) 0 21))
+    (roomRefusal at (length (itemBytes s x lengths t)) (length out)))
 
 -- the place after the item and the total after it, or the refusal
 abbrev pub itemWrote : ℕ → ℕ → ℕ → ItemWrote
 itemWrote zero next total = item.Next next total
 itemWrote (suc r) next total = item.Refused (suc r)
 
+-- the buffer with the bytes at the place; nothing is written where there is a refusal
 abbrev pub itemPlaced : ℕ → List ℕ → ℕ → List ℕ → List ℕ
 itemPlaced zero out at bs = placed out at bs
 itemPlaced (suc r) out at bs = out

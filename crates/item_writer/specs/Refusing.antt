@@ -4,6 +4,7 @@ use Prim.Native.Nat.{ℕ, _+_}
 use mathlib.Core.Bool.{Bool, true, cond, _&&_}
 use mathlib.Core.List.{List}
 use lib.Dec.{ltb}
+use Rattle.refusal.specs.First.{firstOf}
 use Rattle.log_item.specs.Prefix.{prefix, begins, bytesOf, inside}
 use Rattle.log_item.specs.declared.Span.{Span}
 use Rattle.log_item.specs.declared.Op.{Op}
@@ -19,10 +20,22 @@ entriesRefusal used rows e =
     (cond (ltb rows (used + e .count)) 13
     (cond (ltb 18446744073709551616 (e .«first_index» + e .count)) 17 0))
 
--- 13 for each span, then 23 for a put where keys are looked at
+-- the spans of a key lie in the store
+abbrev pub opInside : List ℕ → Span → Op → Bool
+opInside s key (Put v) = inside s key && inside s v
+opInside s key Del = inside s key
+
+-- 13 where they do not
+abbrev pub spanRefusal : Bool → ℕ
+spanRefusal lies = cond lies 0 13
+
+-- 23 for a put where keys are looked at
+abbrev pub internalRefusal : List ℕ → Bool → Span → Op → ℕ
+internalRefusal s checked key (Put v) = cond (checked && begins (bytesOf s key) prefix) 23 0
+internalRefusal s checked key Del = 0
+
 unfoldable pub keyRefusal : List ℕ → Bool → Span → Op → ℕ
-keyRefusal s checked key (Put v) = cond (inside s key) (cond (inside s v) (cond (checked && begins (bytesOf s key) prefix) 23 0) 13) 13
-keyRefusal s checked key Del = cond (inside s key) 0 13
+keyRefusal s checked key op = firstOf (spanRefusal (opInside s key op)) (internalRefusal s checked key op)
 
 unfoldable pub contentRefusal : List ℕ → Bool → ℕ → ℕ → LogItemContent → ℕ
 contentRefusal s checked used rows (contents.EntryIndexes e) = entriesRefusal used rows e
@@ -30,10 +43,6 @@ contentRefusal s checked used rows (contents.Command c) = 0
 contentRefusal s checked used rows (contents.Kv k) = keyRefusal s checked (k .key) (k .op)
 
 -- the spans of a content lie in the store
-abbrev pub opInside : List ℕ → Span → Op → Bool
-opInside s key (Put v) = inside s key && inside s v
-opInside s key Del = inside s key
-
 abbrev pub contentInside : List ℕ → LogItemContent → Bool
 contentInside s (contents.EntryIndexes e) = true
 contentInside s (contents.Command c) = true

@@ -9,14 +9,12 @@ ghost use mathlib.Core.Bool.{true};
 ghost use mathlib.Core.List.{[], _∷_};
 ghost use Prim.Native.Nat.{_+_, _≤_};
 ghost use lib.ListN.{length, take};
-ghost use Rattle.codec.specs.Shortest.{shortest};
-ghost use Rattle.codec.specs.Write.{wroteAt, placed};
 ghost use Rattle.log_item.specs.Entries.{typeOf};
 ghost use Rattle.log_item.specs.Prefix.{bytesOf};
 ghost use Rattle.item_writer.specs.Bytes.{spanBytes, commandBytes, entriesBytes, opBytes, contentBytes, headBytes, tailsBytes};
 ghost use Rattle.log_item.specs.Prefix.{inside};
 ghost use Rattle.item_writer.specs.Refusing.{opInside, contentInside};
-ghost use Rattle.item_writer.specs.Answers.{measureItem, wroteIf, placedIf, itemBytes, itemRefusal, itemWrote, itemPlaced, sumOf, rowLengths};
+ghost use Rattle.item_writer.specs.Answers.{measureItem, pieceRefusal, partWrote, itemBytes, itemRefusal, itemWrote, itemPlaced, sumOf, rowLengths};
 ghost use Rattle.item_writer.specs.Private.{Room, Stored, tailsSize};
 use codec::Wrote;
 use log_item::Command;
@@ -31,6 +29,12 @@ use log_item::Span;
 // it is refused.
 pub enum Head {
     Fine { len: usize, count: usize },
+    Refused(u32),
+}
+
+// The place after a piece of an item; or why it is not written.
+pub enum PartWrote {
+    Next(usize),
     Refused(u32),
 }
 
@@ -57,56 +61,56 @@ pub fn measure(item: LogItem, store: &[u8], checked: bool, used: usize, rows: us
     }
     let entries = item.entries();
     Head::Fine {
-        len: measuring::least(measuring::head_len(item), 4294967296),
+        len: codec::least(measuring::head_len(item), 4294967296),
         count: entries.count,
     }
 }
 
-// Writes an item up to its tails at a place of out. NoRoom also where a span lies outside the store, which is a 13 to `measure` and `encode`.
-pub fn encode_head(item: LogItem, store: &[u8], out: &mut [u8], at: usize) -> Wrote
-    ensures { λ r. ⌜ (r ≡ wroteIf (contentInside (now (store .entry)) (item .content)) (now (out .entry)) at (headBytes (now (store .entry)) item)) × (now (out .exit) ≡ placedIf (contentInside (now (store .entry)) (item .content)) (now (out .entry)) at (headBytes (now (store .entry)) item)) ⌝ }
+// Writes an item up to its tails at a place of out: 13, then 21. Put keys are not looked at (no 23), nor are rows of entries.
+pub fn encode_head(item: LogItem, store: &[u8], out: &mut [u8], at: usize) -> PartWrote
+    ensures { λ r. ⌜ (r ≡ partWrote (pieceRefusal (contentInside (now (store .entry)) (item .content)) at (length (headBytes (now (store .entry)) item)) (length (now (out .entry)))) (at + length (headBytes (now (store .entry)) item))) × (now (out .exit) ≡ itemPlaced (pieceRefusal (contentInside (now (store .entry)) (item .content)) at (length (headBytes (now (store .entry)) item)) (length (now (out .entry)))) (now (out .entry)) at (headBytes (now (store .entry)) item)) ⌝ }
 {
     let content = item.content;
-    if !refusing::content_inside(content, store) {
-        return Wrote::NoRoom;
+    let lies = refusing::content_inside(content, store);
+    let number = refusing::piece_refusal(lies, out.len(), at, measuring::head_len(item));
+    if number != refusal::NONE {
+        return PartWrote::Refused(number);
     }
-    if !refusing::has_room(out.len(), at, measuring::head_len(item)) {
-        return Wrote::NoRoom;
-    }
-    Wrote::Next(put_head(item, store, out, at))
+    PartWrote::Next(put_head(item, store, out, at))
 }
 
-// Writes a command at a place of out.
-pub fn encode_command(c: Command, out: &mut [u8], at: usize) -> Wrote
-    ensures { λ r. ⌜ (r ≡ wroteAt (now (out .entry)) at (commandBytes c)) × (now (out .exit) ≡ placed (now (out .entry)) at (commandBytes c)) ⌝ }
+// Writes a command at a place of out, or 21.
+pub fn encode_command(c: Command, out: &mut [u8], at: usize) -> PartWrote
+    ensures { λ r. ⌜ (r ≡ partWrote (pieceRefusal true at (length (commandBytes c)) (length (now (out .entry)))) (at + length (commandBytes c))) × (now (out .exit) ≡ itemPlaced (pieceRefusal true at (length (commandBytes c)) (length (now (out .entry)))) (now (out .entry)) at (commandBytes c)) ⌝ }
 {
-    if !refusing::has_room(out.len(), at, measuring::command_len(c)) {
-        return Wrote::NoRoom;
+    let number = refusing::piece_refusal(true, out.len(), at, measuring::command_len(c));
+    if number != refusal::NONE {
+        return PartWrote::Refused(number);
     }
-    Wrote::Next(put_command(c, out, at))
+    PartWrote::Next(put_command(c, out, at))
 }
 
-// Writes an op, its key and the content of a put at a place of out. NoRoom also where a span lies outside the store.
-pub fn encode_key_value(kv: KeyValue, store: &[u8], out: &mut [u8], at: usize) -> Wrote
-    ensures { λ r. ⌜ (r ≡ wroteIf (opInside (now (store .entry)) (kv .key) (kv .op)) (now (out .entry)) at (opBytes (now (store .entry)) (kv .key) (kv .op))) × (now (out .exit) ≡ placedIf (opInside (now (store .entry)) (kv .key) (kv .op)) (now (out .entry)) at (opBytes (now (store .entry)) (kv .key) (kv .op))) ⌝ }
+// Writes an op, its key and the content of a put at a place of out: 13, then 21.
+pub fn encode_key_value(kv: KeyValue, store: &[u8], out: &mut [u8], at: usize) -> PartWrote
+    ensures { λ r. ⌜ (r ≡ partWrote (pieceRefusal (opInside (now (store .entry)) (kv .key) (kv .op)) at (length (opBytes (now (store .entry)) (kv .key) (kv .op))) (length (now (out .entry)))) (at + length (opBytes (now (store .entry)) (kv .key) (kv .op)))) × (now (out .exit) ≡ itemPlaced (pieceRefusal (opInside (now (store .entry)) (kv .key) (kv .op)) at (length (opBytes (now (store .entry)) (kv .key) (kv .op))) (length (now (out .entry)))) (now (out .entry)) at (opBytes (now (store .entry)) (kv .key) (kv .op))) ⌝ }
 {
-    if !refusing::op_inside(kv, store) {
-        return Wrote::NoRoom;
+    let lies = refusing::op_inside(kv, store);
+    let number = refusing::piece_refusal(lies, out.len(), at, measuring::op_len(kv));
+    if number != refusal::NONE {
+        return PartWrote::Refused(number);
     }
-    if !refusing::has_room(out.len(), at, measuring::op_len(kv)) {
-        return Wrote::NoRoom;
-    }
-    Wrote::Next(put_op(kv, store, out, at))
+    PartWrote::Next(put_op(kv, store, out, at))
 }
 
-// Writes a count of entries, and their first index where there are any, at a place of out.
-pub fn encode_entry_indexes(e: EntryIndexes, out: &mut [u8], at: usize) -> Wrote
-    ensures { λ r. ⌜ (r ≡ wroteAt (now (out .entry)) at (entriesBytes (e .count) (e .«first_index»))) × (now (out .exit) ≡ placed (now (out .entry)) at (entriesBytes (e .count) (e .«first_index»))) ⌝ }
+// Writes a count of entries, and their first index where there are any, at a place of out, or 21.
+pub fn encode_entry_indexes(e: EntryIndexes, out: &mut [u8], at: usize) -> PartWrote
+    ensures { λ r. ⌜ (r ≡ partWrote (pieceRefusal true at (length (entriesBytes (e .count) (e .«first_index»))) (length (now (out .entry)))) (at + length (entriesBytes (e .count) (e .«first_index»)))) × (now (out .exit) ≡ itemPlaced (pieceRefusal true at (length (entriesBytes (e .count) (e .«first_index»))) (length (now (out .entry)))) (now (out .entry)) at (entriesBytes (e .count) (e .«first_index»))) ⌝ }
 {
-    if !refusing::has_room(out.len(), at, measuring::entries_len(e)) {
-        return Wrote::NoRoom;
+    let number = refusing::piece_refusal(true, out.len(), at, measuring::entries_len(e));
+    if number != refusal::NONE {
+        return PartWrote::Refused(number);
     }
-    Wrote::Next(put_entries(e, out, at))
+    PartWrote::Next(put_entries(e, out, at))
 }
 
 // Writes an item with its tails at a place of out. The first of the lengths are those of its rows, and `total` is the sum of those before them.
@@ -171,7 +175,7 @@ fn put_head(item: LogItem, store: &[u8], out: &mut [u8], at: usize) -> usize
     ensures { λ r. ⌜ Stored (now (out .entry)) at (headBytes (now (store .entry)) item) r (now (out .exit)) ⌝ }
 {
     let content = item.content;
-    let next = put_number(item.raft_group_id, out, at);
+    let next = codec::put_var_u64(item.raft_group_id, out, at);
     put_content(content, store, out, next)
 }
 
@@ -201,11 +205,11 @@ fn put_entries(e: EntryIndexes, out: &mut [u8], at: usize) -> usize
     ensures { λ r. ⌜ Stored (now (out .entry)) at (entriesBytes (e .count) (e .«first_index»)) r (now (out .exit)) ⌝ }
 {
     let count = e.count;
-    let next = put_number(count as u64, out, at);
+    let next = codec::put_var_u64(count as u64, out, at);
     if count == 0 {
         return next;
     }
-    put_number(e.first_index, out, next)
+    codec::put_var_u64(e.first_index, out, next)
 }
 
 fn put_command(c: Command, out: &mut [u8], at: usize) -> usize
@@ -216,7 +220,7 @@ fn put_command(c: Command, out: &mut [u8], at: usize) -> usize
         Command::Clean => put_byte(1, out, at),
         Command::Compact { index } => {
             let next = put_byte(2, out, at);
-            put_number(index, out, next)
+            codec::put_var_u64(index, out, next)
         }
     }
 }
@@ -244,7 +248,7 @@ fn put_span(span: Span, store: &[u8], out: &mut [u8], at: usize) -> usize
     requires { ⌜ (inside (now store) span ≡ true) × (Room (now out) at (spanBytes (now store) span)) ⌝ }
     ensures { λ r. ⌜ Stored (now (out .entry)) at (spanBytes (now (store .entry)) span) r (now (out .exit)) ⌝ }
 {
-    let next = put_number(span.len as u64, out, at);
+    let next = codec::put_var_u64(span.len as u64, out, at);
     put_part(span, store, out, next)
 }
 
@@ -270,20 +274,10 @@ fn put_tails(lengths: &[u32], count: usize, before: u32, out: &mut [u8], start: 
     let mut i = 0;
     while i < count {
         total += lengths[i];
-        at = put_number(total as u64, out, at);
+        at = codec::put_var_u64(total as u64, out, at);
         i += 1;
     }
     at
-}
-
-fn put_number(n: u64, out: &mut [u8], at: usize) -> usize
-    requires { ⌜ Room (now out) at (shortest n) ⌝ }
-    ensures { λ r. ⌜ Stored (now (out .entry)) at (shortest n) r (now (out .exit)) ⌝ }
-{
-    match codec::encode_var_u64(n, out, at) {
-        Wrote::Next(next) => next,
-        Wrote::NoRoom => at,
-    }
 }
 
 fn put_byte(b: u8, out: &mut [u8], at: usize) -> usize

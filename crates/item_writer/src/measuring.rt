@@ -1,6 +1,6 @@
 // The lengths of the pieces of an item, none above the largest number.
 ghost use mathlib.Core.Path.{_≡_};
-ghost use Prim.Native.Nat.{_+_, min};
+ghost use Prim.Native.Nat.{_+_};
 ghost use lib.ListN.{length};
 ghost use Rattle.item_writer.specs.Bytes.{commandBytes, entriesBytes};
 ghost use Rattle.item_writer.specs.Private.{fitted, spanLength, opLength, contentLength, headLength};
@@ -79,10 +79,4 @@ pub(crate) fn plus(a: usize, b: usize) -> usize
         return usize::MAX;
     }
     a + b
-}
-
-pub(crate) fn least(a: usize, b: usize) -> usize
-    ensures { λ r. ⌜ r ≡ min a b ⌝ }
-{
-    if a < b { a } else { b }
 }

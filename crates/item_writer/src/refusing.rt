@@ -5,6 +5,7 @@ ghost use Prim.Native.Nat.{_+_};
 ghost use lib.Dec.{leb};
 ghost use Rattle.log_item.specs.Prefix.{prefix, begins, bytesOf};
 ghost use Rattle.item_writer.specs.Refusing.{opInside, contentInside, entriesRefusal, keyRefusal, contentRefusal};
+ghost use Rattle.item_writer.specs.Answers.{pieceRefusal};
 use log_item::EntryIndexes;
 use log_item::KeyValue;
 use log_item::LogItemContent;
@@ -102,6 +103,19 @@ pub(crate) fn op_inside(kv: KeyValue, store: &[u8]) -> bool
         Op::Put { value } => log_item::lies_in(store, value),
         Op::Del => true,
     }
+}
+
+// Of a piece whose spans lie in the store or not: 13, then 21 where its `len` bytes do not fit from a place on among `all`; or 0.
+pub(crate) fn piece_refusal(lies: bool, all: usize, at: usize, len: usize) -> u32
+    ensures { λ r. ⌜ r ≡ pieceRefusal lies at len all ⌝ }
+{
+    if lies {
+        if has_room(all, at, len) {
+            return refusal::NONE;
+        }
+        return refusal::OUTPUT_SHORT;
+    }
+    refusal::SPAN_OUTSIDE
 }
 
 // Whether `len` bytes from a place on lie among `all`.

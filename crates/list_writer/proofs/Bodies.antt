@@ -5,23 +5,26 @@ use mathlib.Core.Path.{_≡_, refl, sym, ap, _∙_}
 use mathlib.Core.Bool.{Bool, true, false, cond}
 use mathlib.Core.List.{List, _++_, append-assoc}
 use native.Mathlib.Omega.{arith}
-use lib.Dec.{ltb}
+use lib.Dec.{ltb, leb, eqb}
 use lib.Bits.{bitXor}
 use lib.ListN.{length, take, drop, length-append}
 use lib.Seq.{sets-eq, drop-at, take-append-seam, length-take-le}
-use borrow.Author.Tests.{eq-eqb, ne-eqb, le-leb, lt-leb, ltb-false}
+use borrow.Author.Tests.{eq-eqb, ne-eqb, le-leb, lt-leb, leb-true, ltb-false}
 use Rattle.codec.specs.Shortest.{shortest}
 use Rattle.codec.specs.Word.{littleEndianBytes}
+use Rattle.codec.specs.Write.{nextAt, placed}
 use Rattle.codec.proofs.Words.{length-little}
 use Rattle.crc.specs.Crc.{crcOf}
 use Rattle.log_item.specs.declared.LogItem.{LogItem}
 use Rattle.item_writer.specs.Private.{Room, Stored}
-use Rattle.item_writer.proofs.Stores.{stored-then, stored-length}
+use Rattle.item_writer.proofs.Stores.{stored-at, stored-then, stored-length}
 use Rattle.list_writer.specs.declared.Measured.{Measured}
 use Rattle.list_writer.specs.declared.Encoded.{Encoded}
 use Rattle.list_writer.specs.Bytes.{itemsBytes, listBytes, footed, bodyBytes}
 use Rattle.list_writer.specs.Refusing.{Verdict, fine, refused, itemsVerdict, listVerdict}
-use Rattle.list_writer.specs.Answers.{measured, measuredOf, measureOf, encoded, encodedOf, laid}
+use Rattle.list_writer.specs.Answers.{measured, measuredOf, measureOf, encoded, encodedIn, encodedOf, laid}
+use Rattle.list_writer.specs.Pieces.{footerOf, footerNext, footerPlaced}
+use Rattle.list_writer.proofs.Pieces.{footer-stored}
 use Rattle.list_writer.proofs.Heads.{cond-fine}
 use Rattle.list_writer.proofs.Writing.{Writing, writing-start, writing-end}
 
@@ -56,16 +59,7 @@ accepted s checked xs ns m e h = go (listVerdict s checked xs ns) refl e
           whole = omega (arith, at-fine t (ltb 4294967295 (n + 4)) u, length-append (shortest (length xs)) (itemsBytes s xs ns 0));
         }
 
--- ---- room
-
-pub word-room : (out : List ℕ) (at w : ℕ) → at + 4 ≤ length out → Room out at (littleEndianBytes 4 w)
-word-room out at w h = record { fits = omega (arith, length-little 4 w) }
-
 -- ---- the footer
-
-pub same-word : {out later : List ℕ} {at next x y : ℕ} (signature : ℕ) → x ≡ y → Stored out at (littleEndianBytes 4 (bitXor x signature)) next later
-    → Stored out at (littleEndianBytes 4 (bitXor y signature)) next later
-same-word signature e w = rw e at w
 
 -- What was stored from a place on stands there.
 stands : {out mid bs : List ℕ} {at next : ℕ} → at + length bs ≤ length out → Stored out at bs next mid → take (next - at) (drop at mid) ≡ bs
@@ -77,7 +71,7 @@ stands {out} {mid} {bs} {at} {next} h w =
     ∙ take-append-seam bs (drop (at + length bs) out)
 
 with-footer : (signature : ℕ) {out mid later bs : List ℕ} {at next last : ℕ} → at + length bs ≤ length out → Stored out at bs next mid
-    → Stored mid next (littleEndianBytes 4 (bitXor (crcOf (take (next - at) (drop at mid))) signature)) last later
+    → Stored mid next (footerOf signature at next mid) last later
     → Stored out at (footed signature bs) last later
 unfolding footed
 with-footer signature h w v = stored-then w (rw (stands h w) at v)
@@ -94,30 +88,32 @@ module _ {s : List ℕ} {checked : Bool} {xs : List LogItem} {ns : List ℕ} {lo
   count-length : length (shortest n) ≡ length (shortest (length xs))
   count-length = ap (λ (k : ℕ). length (shortest k)) (sym size)
 
-  pub count-room : Room out at (shortest n)
+  count-room : Room out at (shortest n)
   count-room = record { fits = omega (arith, fit, a .whole, count-length) }
 
-  module _ {mid : List ℕ} {start : ℕ} (first : Stored out at (shortest n) start mid) where
+  module _ {mid : List ℕ} {start : ℕ} (wrote : (start ≡ nextAt out at (shortest n)) × (mid ≡ placed out at (shortest n))) where
+    first : Stored out at (shortest n) start mid
+    first = stored-at count-room wrote
+
     pub writing-begins : Writing s xs ns mid start mid start 0 0 0 0
     writing-begins =
         writing-start s checked xs ns mid start (a .total) (a .told)
         (omega (arith, fit, a .whole, count-length, first .after, stored-length first))
 
     module _ {later : List ℕ} {next i j tails t : ℕ} (w : Writing s xs ns mid start later next i j tails t) (z : tails ≤ 0) (h : length xs ≤ i) where
-      pub footer-room : (at ≤ next) × (next + 4 ≤ length later)
+      footer-room : (at ≤ next) × (next + 4 ≤ length later)
       footer-room =
           let e = writing-end w z h in
           (omega (arith, first .after, e .0 .after), e .1)
 
       pub body-stored : (signature : ℕ) {last : ℕ} {final : List ℕ}
-          → Stored later next (littleEndianBytes 4 (bitXor (crcOf (take (next - at) (drop at later))) signature)) last final
-          → Stored out at (bodyBytes s xs ns signature) last final
+          → (last ≡ footerNext signature at next later) × (final ≡ footerPlaced signature at next later) → Stored out at (bodyBytes s xs ns signature) last final
       unfolding listBytes
       body-stored signature f =
           let one : Stored out at (shortest (length xs)) start mid = rw size first in
           let whole : Stored out at (listBytes s xs ns) next later = stored-then one (writing-end w z h .0) in
           with-footer signature
-          (omega (arith, fit, a .whole, length-append (shortest (length xs)) (itemsBytes s xs ns 0))) whole f
+          (omega (arith, fit, a .whole, length-append (shortest (length xs)) (itemsBytes s xs ns 0))) whole (footer-stored signature at next (footer-room .0) (footer-room .1) f)
 
 pub body-length : {s : List ℕ} {checked : Bool} {xs : List LogItem} {ns : List ℕ} {long : ℕ} (signature : ℕ) → Accepted s checked xs ns long
     → length (bodyBytes s xs ns signature) ≡ long
@@ -125,20 +121,47 @@ unfolding listBytes
 body-length {s} {checked} {xs} {ns} signature a =
     omega (arith, footed-length signature (listBytes s xs ns), length-append (shortest (length xs)) (itemsBytes s xs ns 0), a .whole)
 
+-- ---- the answer
+
+module _ (m : Measured) (all at : ℕ) where
+  pub placing-refused : m .length ≡ 0 → encoded (m .number) (m .item) 0 ≡ encodedIn m all at
+  placing-refused h = rw (eq-eqb (m .length) 0 h)
+
+  module _ (h : m .length ≡ 0 → ⊥) where
+    pub placing-21 : all < at + m .length → encoded 21 0 0 ≡ encodedIn m all at
+    placing-21 l = rw (ne-eqb (m .length) 0 h, lt-leb (at + m .length) all l)
+
+    pub placing-fits : at + m .length ≤ all → encoded 0 0 (m .length) ≡ encodedIn m all at
+    placing-fits l = rw (ne-eqb (m .length) 0 h, le-leb (at + m .length) all l)
+
+-- A length that is not 0 is the measure's, and the body fits.
+pub fits : {told m : Measured} → m ≡ told → (all at : ℕ) {r : Encoded} → r ≡ encodedIn m all at → (r .length ≡ 0 → ⊥)
+    → (m .length ≡ 0 → ⊥) × (at + m .length ≤ all) × (r .length ≡ m .length)
+fits {told} {m} same all at {r} e h = go (eqb (m .length) 0) refl e
+  where
+    last : (b : Bool) → leb (at + m .length) all ≡ b → r ≡ cond b (encoded 0 0 (m .length)) (encoded 21 0 0) → (at + m .length ≤ all) × (r .length ≡ m .length)
+    last true g q = (leb-true _ _ g, ap (λ (x : Encoded). x .length) q)
+    last false g q = absurd (h (ap (λ (x : Encoded). x .length) q))
+
+    go : (b : Bool) → eqb (m .length) 0 ≡ b → r ≡ cond b (encoded (m .number) (m .item) 0) (cond (leb (at + m .length) all) (encoded 0 0 (m .length)) (encoded 21 0 0))
+        → (m .length ≡ 0 → ⊥) × (at + m .length ≤ all) × (r .length ≡ m .length)
+    go true g q = absurd (h (ap (λ (x : Encoded). x .length) q))
+    go false g q = let k = last (leb (at + m .length) all) refl q in ((λ z. h (k .1 ∙ z)), k .0, k .1)
+
 -- ---- the ways out
 
-module _ (e : Measured) (out : List ℕ) (at : ℕ) (bs : List ℕ) {m : Measured} (same : m ≡ e) {r : Encoded} where
-  pub refused-before : m .length ≡ 0 → r ≡ encoded (m .number) (m .item) 0 → (r ≡ encodedOf e out at) × (out ≡ laid r out at bs)
-  unfolding encodedOf laid
-  refused-before h k = rw (k, sym same, eq-eqb (m .length) 0 h) (refl, refl)
+module _ (e : Measured) (out : List ℕ) (at : ℕ) (bs : List ℕ) {m : Measured} (same : m ≡ e) {r : Encoded} (p : r ≡ encodedIn m (length out) at) where
+  answered : r ≡ encodedOf e out at
+  unfolding encodedOf
+  answered = p ∙ ap (λ (x : Measured). encodedIn x (length out) at) same
 
-  pub refused-21 : (m .length ≡ 0 → ⊥) → length out < at + m .length → r ≡ encoded 21 0 0 → (r ≡ encodedOf e out at) × (out ≡ laid r out at bs)
-  unfolding encodedOf laid
-  refused-21 h l k = rw (k, sym same, ne-eqb (m .length) 0 h, lt-leb (at + m .length) (length out) l) (refl, refl)
+  pub none-written : r .length ≡ 0 → (r ≡ encodedOf e out at) × (out ≡ laid r out at bs)
+  unfolding laid
+  none-written h = (answered, rw (eq-eqb (r .length) 0 h))
 
-  pub all-written : {later : List ℕ} {next : ℕ} → (m .length ≡ 0 → ⊥) → at + m .length ≤ length out → length bs ≡ m .length
-      → Stored out at bs next later → r ≡ encoded 0 0 (m .length) → (r ≡ encodedOf e out at) × (later ≡ laid r out at bs)
-  unfolding encodedOf laid
-  all-written {later} {next} h l k w q =
-      let fit : at + length bs ≤ length out = omega arith in
-      rw (q, sym same, ne-eqb (m .length) 0 h, le-leb (at + m .length) (length out) l) (refl, w .stored ∙ sets-eq bs out at fit ∙ (rw (le-leb (at + length bs) (length out) fit)))
+  pub all-written : {later : List ℕ} {next : ℕ} → (r .length ≡ 0 → ⊥) → length bs ≡ m .length → Stored out at bs next later
+      → (r ≡ encodedOf e out at) × (later ≡ laid r out at bs)
+  unfolding laid
+  all-written {later} {next} h k w =
+      let fit : at + length bs ≤ length out = omega (arith, fits same (length out) at p h .1) in
+      (answered, w .stored ∙ sets-eq bs out at fit ∙ (rw (ne-eqb (r .length) 0 h, le-leb (at + length bs) (length out) fit)))

@@ -7,10 +7,16 @@ use Rattle.list_writer.proofs.measure.Kinds as measure-kinds
 use Rattle.list_writer.proofs.measure.Reads as measure-reads
 use Rattle.list_writer.proofs.encode.Kinds as encode-kinds
 use Rattle.list_writer.proofs.encode.Reads as encode-reads
-use Rattle.list_writer.proofs.rows.measure_rows.Kinds as measure-rows-kinds
-use Rattle.list_writer.proofs.rows.measure_rows.Reads as measure-rows-reads
-use Rattle.list_writer.proofs.rows.encode_rows.Kinds as encode-rows-kinds
-use Rattle.list_writer.proofs.rows.encode_rows.Reads as encode-rows-reads
+use Rattle.list_writer.proofs.finish.Kinds as finish-kinds
+use Rattle.list_writer.proofs.finish.Reads as finish-reads
+use Rattle.list_writer.proofs.refuse.Kinds as refuse-kinds
+use Rattle.list_writer.proofs.refuse.Reads as refuse-reads
+use Rattle.list_writer.proofs.placing.Kinds as placing-kinds
+use Rattle.list_writer.proofs.placing.Reads as placing-reads
+use Rattle.list_writer.proofs.write_head.Kinds as write-head-kinds
+use Rattle.list_writer.proofs.write_head.Reads as write-head-reads
+use Rattle.list_writer.proofs.write_footer.Kinds as write-footer-kinds
+use Rattle.list_writer.proofs.write_footer.Reads as write-footer-reads
 
 pub measure : OneAnswer 1 measure-kinds.ps measure-kinds.r measure-reads.Post (λ κs x y s t. x ≡ y)
 measure κs a x y s t p q = p ∙ sym q
@@ -18,8 +24,17 @@ measure κs a x y s t p q = p ∙ sym q
 pub encode : OneAnswer 2 encode-kinds.ps encode-kinds.r encode-reads.Post (λ κs x y s t. (x ≡ y) × (now (s .1 .1 .1 .1 .1 .1 .1 .0) ≡ now (t .1 .1 .1 .1 .1 .1 .1 .0)))
 encode κs a x y s t p q = let e : x ≡ y = p .0 ∙ sym (q .0) in (e, p .1 ∙ (rw e (sym (q .1))))
 
-pub measure-rows : OneAnswer 3 measure-rows-kinds.ps measure-rows-kinds.r measure-rows-reads.Post (λ κs x y s t. x ≡ y)
-measure-rows κs a x y s t p q = p ∙ sym q
+pub finish : OneAnswer 0 finish-kinds.ps finish-kinds.r finish-reads.Post (λ κs x y s t. x ≡ y)
+finish κs a x y s t p q = p ∙ sym q
 
-pub encode-rows : OneAnswer 4 encode-rows-kinds.ps encode-rows-kinds.r encode-rows-reads.Post (λ κs x y s t. (x ≡ y) × (now (s .1 .1 .1 .1 .1 .0) ≡ now (t .1 .1 .1 .1 .1 .0)))
-encode-rows κs a x y s t p q = let e : x ≡ y = p .0 ∙ sym (q .0) in (e, p .1 ∙ (rw e (sym (q .1))))
+pub refuse : OneAnswer 0 refuse-kinds.ps refuse-kinds.r refuse-reads.Post (λ κs x y s t. x ≡ y)
+refuse κs a x y s t p q = p ∙ sym q
+
+pub placing : OneAnswer 0 placing-kinds.ps placing-kinds.r placing-reads.Post (λ κs x y s t. x ≡ y)
+placing κs a x y s t p q = p ∙ sym q
+
+pub write-head : OneAnswer 2 write-head-kinds.ps write-head-kinds.r write-head-reads.Post (λ κs x y s t. (x ≡ y) × (now (s .1 .1 .0) ≡ now (t .1 .1 .0)))
+write-head κs a x y s t p q = (p .0 ∙ sym (q .0), p .1 ∙ sym (q .1))
+
+pub write-footer : OneAnswer 1 write-footer-kinds.ps write-footer-kinds.r write-footer-reads.Post (λ κs x y s t. (x ≡ y) × (now (s .1 .0) ≡ now (t .1 .0)))
+write-footer κs a x y s t p q = (p .0 ∙ sym (q .0), p .1 ∙ sym (q .1))

@@ -1,4 +1,4 @@
--- What the functions of item_writer tell of an item: its refusal, its length and its rows, and that it is written.
+-- What the functions of item_writer tell of an item: its refusal, its length and its rows.
 -- Assumes nothing.
 use Prim.Native.Nat.{ℕ, zero, suc}
 use mathlib.Core.Path.{_≡_, refl, ap}
@@ -6,15 +6,12 @@ use mathlib.Core.Bool.{Bool, true, false, cond}
 use mathlib.Core.List.{List}
 use native.Mathlib.Omega.{arith}
 use lib.ListN.{length}
-use Rattle.codec.specs.Write.{wroteAt, placed}
-use Rattle.codec.specs.declared.Wrote.{Wrote}
 use Rattle.log_item.specs.Entries.{entriesOf}
 use Rattle.log_item.specs.declared.LogItem.{LogItem}
 use Rattle.item_writer.specs.declared.Head.the-variants.{Fine, Refused}
 use Rattle.item_writer.specs.Bytes.{headBytes}
 use Rattle.item_writer.specs.Refusing.{contentRefusal}
-use Rattle.item_writer.specs.Answers.{capped, headOf, measureItem, wroteIf, placedIf}
-use Rattle.item_writer.specs.Private.{Room}
+use Rattle.item_writer.specs.Answers.{capped, headOf, measureItem}
 use Rattle.list_writer.specs.Refusing.{Verdict, fine, refused, unless}
 
 module _ (s : List ℕ) (checked : Bool) (used rows : ℕ) (x : LogItem) where
@@ -45,8 +42,3 @@ unless-fine (suc r) k v t h = absurd (let z : _≡_ {A = ℕ} 0 1 = cc in omega 
 pub cond-fine : (b : Bool) (n k : ℕ) (v : Verdict) (t : ℕ) → cond b (refused n k) v ≡ fine t → (b ≡ false) × (v ≡ fine t)
 cond-fine true n k v t h = absurd (let z : _≡_ {A = ℕ} 0 1 = cc in omega arith)
 cond-fine false n k v t h = (refl, h)
-
--- Where the spans lie in the store, an item is written as any bytes are.
-pub inside-wrote : {out later bs : List ℕ} {at : ℕ} {w : Wrote} {b : Bool} → b ≡ true → Room out at bs
-    → (w ≡ wroteIf b out at bs) × (later ≡ placedIf b out at bs) → (w ≡ wroteAt out at bs) × (later ≡ placed out at bs)
-inside-wrote h r e = rw h at e

@@ -1,9 +1,8 @@
 pub mod Tables
-pub mod RowItems
 pub mod Heads
+pub mod Pieces
 pub mod Rest
 pub mod Measuring
-pub mod RowsMeasuring
 pub mod Writing
 pub mod Bodies
 pub mod Determined

@@ -1,4 +1,4 @@
--- What holds at the head of the loop that writes, how a turn keeps it, and that there is room for each piece.
+-- What holds at the head of the loop that writes, and how a turn keeps it: there is room for each piece.
 -- Assumes nothing.
 use Prim.Native.Nat.{ℕ, _+_, _-_, _≤_, _<_}
 use mathlib.Core.Path.{_≡_, refl, sym, ap, _∙_}
@@ -9,16 +9,19 @@ use lib.Dec.{ltb}
 use lib.ListN.{length, getD, length-append}
 use borrow.Author.Tests.{ltb-false}
 use Rattle.codec.specs.Shortest.{shortest}
+use Rattle.codec.specs.Write.{nextAt, placed}
 use Rattle.log_item.specs.Entries.{entriesOf}
 use Rattle.log_item.specs.declared.LogItem.{LogItem}
 use Rattle.item_writer.specs.Bytes.{headBytes}
 use Rattle.item_writer.specs.Refusing.{contentRefusal, contentInside}
 use Rattle.item_writer.specs.Private.{Room, Stored}
 use Rattle.item_writer.proofs.Refusals.{content-inside, content-allowed}
-use Rattle.item_writer.proofs.Stores.{stored-none, stored-then, stored-length, stored-same}
+use Rattle.item_writer.proofs.Stores.{stored-none, stored-at, stored-then, stored-length, stored-same}
 use Rattle.log_item.specs.Blank.{blankItem}
 use Rattle.list_writer.specs.Bytes.{itemsBytes}
 use Rattle.list_writer.specs.Refusing.{fine, itemsVerdict}
+use Rattle.list_writer.specs.Pieces.{headNext, headPlaced}
+use Rattle.list_writer.proofs.Pieces.{head-stored}
 use Rattle.list_writer.proofs.Heads.{unless-fine, cond-fine}
 use Rattle.list_writer.proofs.Rest.{restBytes, bytes-row, bytes-item, bytes-end, bytes-start, restVerdict, told-row, told-item, told-start}
 
@@ -75,12 +78,13 @@ module _ {s : List ℕ} {xs : List LogItem} {ns out₀ : List ℕ} {start : ℕ}
   pub row-low : (r : ℕ) → 0 < tails → getD ns j 0 ≡ r → t + r ≤ 4294967295
   row-low r h e = ltb-false 4294967295 (t + r) (row-told r h e .0)
 
-  pub row-room : (r : ℕ) → 0 < tails → getD ns j 0 ≡ r → Room out at (shortest (t + r))
+  row-room : (r : ℕ) → 0 < tails → getD ns j 0 ≡ r → Room out at (shortest (t + r))
   row-room r h e = room-now _ _ (row-bytes r h e)
 
-  pub writing-row : (r : ℕ) (later : List ℕ) (next : ℕ) → 0 < tails → getD ns j 0 ≡ r → Stored out at (shortest (t + r)) next later
-      → Writing s xs ns out₀ start later next i (j + 1) (tails - 1) (t + r)
-  writing-row r later next h e p =
+  pub writing-row : (r : ℕ) (later : List ℕ) (next : ℕ) → 0 < tails → getD ns j 0 ≡ r
+      → (next ≡ nextAt out at (shortest (t + r))) × (later ≡ placed out at (shortest (t + r))) → Writing s xs ns out₀ start later next i (j + 1) (tails - 1) (t + r)
+  writing-row r later next h e q =
+      let p = stored-at (row-room r h e) q in
       record {
         checked = w .checked;
         total = w .total;
@@ -89,7 +93,7 @@ module _ {s : List ℕ} {xs : List LogItem} {ns out₀ : List ℕ} {start : ℕ}
         low = row-low r h e;
         same = stored-length p ∙ w .same;
         spare = spare-now _ _ (row-bytes r h e) p;
-        left = λ q. left-now _ _ (row-bytes r h e) p q;
+        left = λ k. left-now _ _ (row-bytes r h e) p k;
         told = row-told r h e .1;
       }
 
@@ -109,18 +113,19 @@ module _ {s : List ℕ} {xs : List LogItem} {ns out₀ : List ℕ} {start : ℕ}
       (sym (rw e at (told-item s xs ns (w .checked) i j t h (omega (arith, w .room)))) ∙ sym (ap (λ (n : ℕ). restVerdict s xs ns (w .checked) i j n t) (none z))
       ∙ w .told)
 
-  pub item-room : (x : LogItem) → tails ≤ 0 → i < length xs → getD xs i blankItem ≡ x → Room out at (headBytes s x)
+  item-room : (x : LogItem) → tails ≤ 0 → i < length xs → getD xs i blankItem ≡ x → Room out at (headBytes s x)
   item-room x z h e = room-now _ _ (item-bytes x z h e)
 
-  pub item-inside : (x : LogItem) → tails ≤ 0 → i < length xs → getD xs i blankItem ≡ x → contentInside s (x .content) ≡ true
+  item-inside : (x : LogItem) → tails ≤ 0 → i < length xs → getD xs i blankItem ≡ x → contentInside s (x .content) ≡ true
   item-inside x z h e = content-inside s (w .checked) j (length ns) (x .content) (item-told x z h e .0)
 
   pub item-rows : (x : LogItem) → tails ≤ 0 → i < length xs → getD xs i blankItem ≡ x → j + entriesOf (x .content) .count ≤ length ns
   item-rows x z h e = content-allowed s (w .checked) j (length ns) (x .content) (item-told x z h e .0) .lent (omega (arith, w .room))
 
   pub writing-item : (x : LogItem) (later : List ℕ) (next b : ℕ) → tails ≤ 0 → i < length xs → getD xs i blankItem ≡ x → b ≡ entriesOf (x .content) .count
-      → Stored out at (headBytes s x) next later → Writing s xs ns out₀ start later next (i + 1) j b t
-  writing-item x later next b z h e f p =
+      → (next ≡ headNext s x (length out) at) × (later ≡ headPlaced s x out at) → Writing s xs ns out₀ start later next (i + 1) j b t
+  writing-item x later next b z h e f q =
+      let p = head-stored s x (item-inside x z h e) (item-room x z h e) q in
       rw f
       (record {
         checked = w .checked;
@@ -130,7 +135,7 @@ module _ {s : List ℕ} {xs : List LogItem} {ns out₀ : List ℕ} {start : ℕ}
         low = w .low;
         same = stored-length p ∙ w .same;
         spare = spare-now _ _ (item-bytes x z h e) p;
-        left = λ q. left-now _ _ (item-bytes x z h e) p q;
+        left = λ k. left-now _ _ (item-bytes x z h e) p k;
         told = item-told x z h e .1;
       })
 

@@ -27,10 +27,14 @@ measureOf s checked xs lengths = measuredOf (listVerdict s checked xs lengths) (
 abbrev pub encoded : ℕ → ℕ → ℕ → Encoded
 encoded number item len = record { number = number; item = item; length = len }
 
--- the measure's refusal, then 21: the body does not fit from the place `at` on
+-- the measure's refusal, then 21: the body does not fit from the place `at` on among `all` bytes
+abbrev pub encodedIn : Measured → ℕ → ℕ → Encoded
+encodedIn m all at =
+    cond (eqb (m .length) 0) (encoded (m .number) (m .item) 0) (cond (leb (at + m .length) all) (encoded 0 0 (m .length)) (encoded 21 0 0))
+
+-- the same of a buffer
 unfoldable pub encodedOf : Measured → List ℕ → ℕ → Encoded
-encodedOf m out at =
-    cond (eqb (m .length) 0) (encoded (m .number) (m .item) 0) (cond (leb (at + m .length) (length out)) (encoded 0 0 (m .length)) (encoded 21 0 0))
+encodedOf m out at = encodedIn m (length out) at
 
 -- the bytes at the place, all else as it was; nothing is touched where the body is refused
 unfoldable pub laid : Encoded → List ℕ → ℕ → List ℕ → List ℕ

@@ -1,26 +1,15 @@
 // Writing a body at a place of a lent buffer: item count, items, footer. From log_batch.rs, the encode of LogItemBatch.
 //
 // Every public function takes any rows and counts, and spans that lie anywhere. A refused body is not written at all.
-mod rows;
-
-pub use rows::encode_rows;
-pub use rows::measure_rows;
 ghost use mathlib.Core.Path.{_≡_};
-ghost use mathlib.Core.Bool.{true};
-ghost use Prim.Native.Nat.{_+_, _-_, _≤_, min};
-ghost use lib.Bits.{bitXor};
-ghost use lib.ListN.{length, take, drop};
-ghost use Rattle.codec.specs.Shortest.{shortest};
-ghost use Rattle.codec.specs.Word.{littleEndianBytes};
-ghost use Rattle.crc.specs.Crc.{crcOf};
-ghost use Rattle.item_writer.specs.Bytes.{headBytes};
-ghost use Rattle.item_writer.specs.Refusing.{contentInside};
-ghost use Rattle.item_writer.specs.Private.{Room, Stored};
+ghost use lib.ListN.{length};
 ghost use Rattle.list_writer.specs.Bytes.{itemsOf, lengthsOf, bodyBytes};
 ghost use Rattle.list_writer.specs.Refusing.{fine};
-ghost use Rattle.list_writer.specs.Answers.{measured, measuredOf, measureOf, encoded, encodedOf, laid};
+ghost use Rattle.list_writer.specs.Answers.{measured, measuredOf, measureOf, encoded, encodedIn, encodedOf, laid};
+ghost use Rattle.list_writer.specs.Pieces.{headNext, headPlaced, footerNext, footerPlaced};
 use codec::Wrote;
 use item_writer::Head;
+use item_writer::PartWrote;
 use log_item::EntryIndex;
 use log_item::LogItem;
 
@@ -52,7 +41,7 @@ pub fn measure(
 ) -> Measured
     ensures { λ r. ⌜ r ≡ measureOf (now (store .entry)) checked (itemsOf items «item_count») (lengthsOf entries «entry_count») ⌝ }
 {
-    let rows = least(entry_count, 1024);
+    let rows = codec::least(entry_count, 1024);
     if 256 < item_count {
         return refuse(refusal::ITEMS_TOO_MANY, 0);
     }
@@ -89,8 +78,8 @@ pub fn measure(
     }
 }
 
-// The list has so many bytes: with the footer they may be too many.
-fn finish(size: usize, total: u32) -> Measured
+// What is answered for a list of so many bytes that is not refused: 22, or its length with the footer.
+pub fn finish(size: usize, total: u32) -> Measured
     ensures { λ r. ⌜ r ≡ measuredOf (fine total) size ⌝ }
 {
     if 4294967291 < size {
@@ -104,7 +93,8 @@ fn finish(size: usize, total: u32) -> Measured
     }
 }
 
-fn refuse(number: u32, item: usize) -> Measured
+// What is answered for a list that is refused, and at which item.
+pub fn refuse(number: u32, item: usize) -> Measured
     ensures { λ r. ⌜ r ≡ measured number item 0 0 ⌝ }
 {
     Measured {
@@ -130,16 +120,11 @@ pub fn encode(
     ensures { λ r. ⌜ (r ≡ encodedOf (measureOf (now (store .entry)) checked (itemsOf items «item_count») (lengthsOf entries «entry_count»)) (now (out .entry)) at) × (now (out .exit) ≡ laid r (now (out .entry)) at (bodyBytes (now (store .entry)) (itemsOf items «item_count») (lengthsOf entries «entry_count») signature)) ⌝ }
 {
     let m = measure(items, item_count, entries, entry_count, store, checked);
-    if m.length == 0 {
-        return answer(m.number, m.item, 0);
+    let answer = placing(m, out.len(), at);
+    if answer.length == 0 {
+        return answer;
     }
-    if out.len() < at {
-        return answer(refusal::OUTPUT_SHORT, 0, 0);
-    }
-    if out.len() - at < m.length {
-        return answer(refusal::OUTPUT_SHORT, 0, 0);
-    }
-    let mut next = write_number(item_count as u64, out, at);
+    let mut next = codec::put_var_u64(item_count as u64, out, at);
     let mut i: usize = 0;
     let mut j: usize = 0;
     let mut tails: usize = 0;
@@ -148,7 +133,7 @@ pub fn encode(
         if 0 < tails {
             let row = entries[j];
             total += row.entry_len;
-            next = write_number(total as u64, out, next);
+            next = codec::put_var_u64(total as u64, out, next);
             j += 1;
             tails -= 1;
         } else if i < item_count {
@@ -159,9 +144,25 @@ pub fn encode(
             i += 1;
         } else {
             write_footer(signature, out, at, next);
-            return answer(refusal::NONE, 0, m.length);
+            return answer;
         }
     }
+}
+
+// What writing a measured body at a place among `all` bytes answers: its refusal, then 21.
+pub fn placing(m: Measured, all: usize, at: usize) -> Encoded
+    ensures { λ r. ⌜ r ≡ encodedIn m all at ⌝ }
+{
+    if m.length == 0 {
+        return answer(m.number, m.item, 0);
+    }
+    if all < at {
+        return answer(refusal::OUTPUT_SHORT, 0, 0);
+    }
+    if all - at < m.length {
+        return answer(refusal::OUTPUT_SHORT, 0, 0);
+    }
+    answer(refusal::NONE, 0, m.length)
 }
 
 fn answer(number: u32, item: usize, length: usize) -> Encoded
@@ -174,41 +175,30 @@ fn answer(number: u32, item: usize, length: usize) -> Encoded
     }
 }
 
-fn write_number(n: u64, out: &mut [u8], at: usize) -> usize
-    requires { ⌜ Room (now out) at (shortest n) ⌝ }
-    ensures { λ r. ⌜ Stored (now (out .entry)) at (shortest n) r (now (out .exit)) ⌝ }
-{
-    match codec::encode_var_u64(n, out, at) {
-        Wrote::Next(next) => next,
-        Wrote::NoRoom => at,
-    }
-}
-
-// An item up to its tails.
-fn write_head(item: LogItem, store: &[u8], out: &mut [u8], at: usize) -> usize
-    requires { ⌜ (contentInside (now store) (item .content) ≡ true) × Room (now out) at (headBytes (now store) item) ⌝ }
-    ensures { λ r. ⌜ Stored (now (out .entry)) at (headBytes (now (store .entry)) item) r (now (out .exit)) ⌝ }
+// Writes an item up to its tails and answers the place after it; or the place itself, where a span lies outside the store or it does not fit.
+pub fn write_head(item: LogItem, store: &[u8], out: &mut [u8], at: usize) -> usize
+    ensures { λ r. ⌜ (r ≡ headNext (now (store .entry)) item (length (now (out .entry))) at) × (now (out .exit) ≡ headPlaced (now (store .entry)) item (now (out .entry)) at) ⌝ }
 {
     match item_writer::encode_head(item, store, out, at) {
-        Wrote::Next(next) => next,
-        Wrote::NoRoom => at,
+        PartWrote::Next(next) => next,
+        PartWrote::Refused(_) => at,
     }
 }
 
-// The footer of what stands from `start` up to `at`, behind it.
-fn write_footer(signature: u32, out: &mut [u8], start: usize, at: usize) -> usize
-    requires { ⌜ (start ≤ at) × (at + 4 ≤ length (now out)) ⌝ }
-    ensures { λ r. ⌜ Stored (now (out .entry)) at (littleEndianBytes 4 (bitXor (crcOf (take (at - start) (drop start (now (out .entry))))) signature)) r (now (out .exit)) ⌝ }
+// Writes the footer of what stands from `start` up to `at` behind it and answers the place after it; or `at`, where `start` lies behind it
+// or four bytes do not fit.
+pub fn write_footer(signature: u32, out: &mut [u8], start: usize, at: usize) -> usize
+    ensures { λ r. ⌜ (r ≡ footerNext signature start at (now (out .entry))) × (now (out .exit) ≡ footerPlaced signature start at (now (out .entry))) ⌝ }
 {
+    if at < start {
+        return at;
+    }
+    if out.len() < at {
+        return at;
+    }
     let word = crc::crc32(&out[start..at]) ^ signature;
     match codec::encode_u32_le(word, out, at) {
         Wrote::Next(next) => next,
         Wrote::NoRoom => at,
     }
-}
-
-fn least(a: usize, b: usize) -> usize
-    ensures { λ r. ⌜ r ≡ min a b ⌝ }
-{
-    if a < b { a } else { b }
 }

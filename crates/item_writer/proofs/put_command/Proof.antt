@@ -1,6 +1,6 @@
 -- `item_writer::put_command` meets its contract.
 -- Assumes nothing.
-use Rattle.item_writer.proofs.Stores.{room-first, room-same, room-then, stored-same, stored-then}
+use Rattle.item_writer.proofs.Stores.{room-first, room-same, room-then, stored-at, stored-same, stored-then}
 use Rattle.item_writer.proofs.Pieces.{command-clean, command-compact}
 use mathlib.Core.List.{[], _∷_}
 use borrow.Author.Needs.{needs}
@@ -19,8 +19,8 @@ enum-known-c c = search needs
 put-byte-requires-2 : tie.Need-put-byte-requires-2
 put-byte-requires-2 c κs = room-first (2 ∷ []) _ (room-same (command-compact (c .before .before .c .given .1)) (c .before .before .before .before .before .pre))
 
-put-number-requires : tie.Need-put-number-requires
-put-number-requires c κs = room-then _ (c .before .before .before .put-byte2 .ensures) (room-same (command-compact (c .before .before .before .before .before .before .c .given .1)) (c .before .before .before .before .before .before .before .before .before .pre))
+put-var-u64-requires : tie.Need-put-var-u64-requires
+put-var-u64-requires c κs = search needs
 
 same-length : tie.Need-same-length
 same-length c = search needs
@@ -32,7 +32,10 @@ same-length-2 : tie.Need-same-length-2
 same-length-2 c = search needs
 
 returns-2 : tie.Need-returns-2
-returns-2 c = stored-same (command-compact (c .before .before .before .before .before .before .before .before .before .c .given .1)) (stored-then (c .before .before .before .before .before .before .put-byte2 .ensures) (c .before .before .put-number .ensures))
+returns-2 c =
+    let e = command-compact (c .before .before .before .before .before .before .before .before .before .c .given .1) in
+    let w = c .before .before .before .before .before .before .put-byte2 .ensures in
+    stored-same e (stored-then w (stored-at (room-then _ w (room-same e (c .before .before .before .before .before .before .before .before .before .before .before .before .pre))) (c .before .before .put-var-u64 .ensures)))
 
 pub put-command-spec : {M : Type 1} → statement M
 put-command-spec =
@@ -42,7 +45,7 @@ put-command-spec =
     put-byte-requires
     enum-known-c
     put-byte-requires-2
-    put-number-requires
+    put-var-u64-requires
     same-length
     returns
     same-length-2

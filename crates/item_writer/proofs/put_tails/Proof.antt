@@ -1,6 +1,7 @@
 -- `item_writer::put_tails` meets its contract.
 -- Assumes nothing.
 use native.Mathlib.Omega.{arith}
+use Rattle.item_writer.proofs.Stores.{stored-at}
 use Rattle.item_writer.proofs.Tails.{Putting, putting-start, putting-small, putting-room, putting-next, putting-end}
 use Prim.Native.Nat.{_-_}
 use borrow.Author.Needs.{needs}
@@ -25,11 +26,11 @@ shared-slice-read-total c = search needs
 add-total : tie.Need-add-total Inv-loop μ-loop
 add-total c = omega (arith, putting-small _ _ (c .before .before .before .before .before .pre .0) (c .before .before .loop .inv) (c .before .loop-test .taken) (c .before .before .before .before .before .pre .1))
 
-cast-put-number : tie.Need-cast-put-number Inv-loop μ-loop
-cast-put-number c = omega (arith, putting-small _ _ (c .before .before .before .before .before .pre .0) (c .before .before .loop .inv) (c .before .loop-test .taken) (c .before .before .before .before .before .pre .1))
+cast-put-var-u64 : tie.Need-cast-put-var-u64 Inv-loop μ-loop
+cast-put-var-u64 c = omega (arith, putting-small _ _ (c .before .before .before .before .before .pre .0) (c .before .before .loop .inv) (c .before .loop-test .taken) (c .before .before .before .before .before .pre .1))
 
-put-number-requires : tie.Need-put-number-requires Inv-loop μ-loop
-put-number-requires c κs = putting-room _ _ (c .before .before .before .before .before .before .pre .0) (c .before .before .before .loop .inv) (c .before .before .loop-test .taken)
+put-var-u64-requires : tie.Need-put-var-u64-requires Inv-loop μ-loop
+put-var-u64-requires c κs = search needs
 
 add-i : tie.Need-add-i Inv-loop μ-loop
 add-i c = search needs
@@ -38,7 +39,11 @@ loop-less : tie.Need-loop-less Inv-loop μ-loop
 loop-less c = search needs
 
 loop-again : tie.Need-loop-again Inv-loop μ-loop
-loop-again c = putting-next _ _ (c .before .before .before .before .before .before .before .before .before .pre .0) (c .before .before .before .before .before .before .loop .inv) (c .before .before .before .before .before .loop-test .taken) (c .before .before .put-number .ensures)
+loop-again c =
+    let h = c .before .before .before .before .before .before .before .before .before .pre .0 in
+    let v = c .before .before .before .before .before .before .loop .inv in
+    let t = c .before .before .before .before .before .loop-test .taken in
+    putting-next _ _ h v t (stored-at (putting-room _ _ h v t) (c .before .before .put-var-u64 .ensures))
 
 same-length : tie.Need-same-length Inv-loop μ-loop
 same-length c = c .before .loop .inv .same
@@ -56,8 +61,8 @@ put-tails-spec =
     mul-total
     shared-slice-read-total
     add-total
-    cast-put-number
-    put-number-requires
+    cast-put-var-u64
+    put-var-u64-requires
     add-i
     loop-less
     loop-again

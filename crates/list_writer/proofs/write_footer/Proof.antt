@@ -1,13 +1,15 @@
--- `list_writer::write_footer` meets its contract: there is room for four bytes, so that `codec::encode_u32_le` writes.
+-- `list_writer::write_footer` meets its contract.
 -- Assumes nothing.
 use borrow.Author.Needs.{needs}
-use Rattle.item_writer.proofs.Stores.{took, never-short}
-use Rattle.list_writer.proofs.Bodies.{word-room, same-word}
+use Rattle.list_writer.proofs.Pieces.{footer-back, footer-past, footer-next, footer-place}
 use Rattle.list_writer.proofs.write_footer.Statement.{statement}
 use Rattle.list_writer.proofs.write_footer.Tie as tie
 
-sub-crc32 : tie.Need-sub-crc32
-sub-crc32 c = search needs
+returns : tie.Need-returns
+returns c = footer-back _ _ _ _ (c .if1 .taken)
+
+returns-2 : tie.Need-returns-2
+returns-2 c = footer-past _ _ _ _ (c .before .if1 .left) (c .if2 .taken)
 
 part-crc32-start : tie.Need-part-crc32-start
 part-crc32-start c = search needs
@@ -30,20 +32,21 @@ enum-told c = search needs
 same-length : tie.Need-same-length
 same-length c = search needs
 
-returns : tie.Need-returns
-returns c = same-word _ (c .before .before .before .before .before .before .before .crc32 .ensures) (took (word-room _ _ _ (c .before .before .before .before .before .before .before .before .before .before .before .pre .1)) (c .before .before .before .before .before .encode-u32-le .ensures) (c .before .next .given .1))
+returns-3 : tie.Need-returns-3
+returns-3 c = footer-next _ _ _ _ (c .before .before .before .before .before .before .before .before .before .before .before .if1 .left) (c .before .before .before .before .before .before .before .crc32 .ensures) (c .before .before .before .before .before .encode-u32-le .ensures) (c .before .next .given .1)
 
 same-length-2 : tie.Need-same-length-2
 same-length-2 c = search needs
 
-returns-2 : tie.Need-returns-2
-returns-2 c = same-word _ (c .before .before .before .before .before .before .crc32 .ensures) (never-short (word-room _ _ _ (c .before .before .before .before .before .before .before .before .before .before .pre .1)) (c .before .before .before .before .encode-u32-le .ensures) (c .enum-told .given .1))
+returns-4 : tie.Need-returns-4
+returns-4 c = footer-place _ _ _ _ (c .before .before .before .before .before .before .before .before .before .before .if1 .left) (c .before .before .before .before .before .before .crc32 .ensures) (c .before .before .before .before .encode-u32-le .ensures) (c .enum-told .given .1)
 
 pub write-footer-spec : {M : Type 1} → statement M
 write-footer-spec =
     tie.close
     (tie.spec
-    sub-crc32
+    returns
+    returns-2
     part-crc32-start
     part-crc32-end
     crc32-requires
@@ -51,6 +54,6 @@ write-footer-spec =
     enum-known-next
     enum-told
     same-length
-    returns
+    returns-3
     same-length-2
-    returns-2)
+    returns-4)

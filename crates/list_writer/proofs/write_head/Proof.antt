@@ -1,8 +1,8 @@
--- `list_writer::write_head` meets its contract: where the spans lie in the store and there is room, `item_writer::encode_head` writes.
+-- `list_writer::write_head` meets its contract.
 -- Assumes nothing.
 use borrow.Author.Needs.{needs}
-use Rattle.item_writer.proofs.Stores.{took, never-short}
-use Rattle.list_writer.proofs.Heads.{inside-wrote}
+use denote.Ref.{now}
+use Rattle.list_writer.proofs.Pieces.{head-next, head-place}
 use Rattle.list_writer.proofs.write_head.Statement.{statement}
 use Rattle.list_writer.proofs.write_head.Tie as tie
 
@@ -19,13 +19,13 @@ same-length : tie.Need-same-length
 same-length c = search needs
 
 returns : tie.Need-returns
-returns c = took (c .before .before .before .before .before .before .before .before .before .pre .1) (inside-wrote (c .before .before .before .before .before .before .before .before .before .pre .0) (c .before .before .before .before .before .before .before .before .before .pre .1) (c .before .before .before .before .before .encode-head .ensures)) (c .before .next .given .1)
+returns c = let a = c .before .before .before .before .before .before .before .before .before .args in head-next (now (a .store)) (a .item) (now (a .out)) (a .at) (c .before .before .before .before .before .encode-head .ensures) (c .before .next .given .1)
 
 same-length-2 : tie.Need-same-length-2
 same-length-2 c = search needs
 
 returns-2 : tie.Need-returns-2
-returns-2 c = never-short (c .before .before .before .before .before .before .before .before .pre .1) (inside-wrote (c .before .before .before .before .before .before .before .before .pre .0) (c .before .before .before .before .before .before .before .before .pre .1) (c .before .before .before .before .encode-head .ensures)) (c .enum-told .given .1)
+returns-2 c = let a = c .before .before .before .before .before .before .before .before .args in head-place (now (a .store)) (a .item) (now (a .out)) (a .at) (c .before .before .before .before .encode-head .ensures) (c .enum-told .given .1)
 
 pub write-head-spec : {M : Type 1} → statement M
 write-head-spec =

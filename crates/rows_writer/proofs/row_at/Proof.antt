@@ -1,9 +1,9 @@
--- `list_writer::rows::row_at` meets its contract.
+-- `rows_writer::row_at` meets its contract.
 -- Assumes nothing.
 use Rattle.item_row.specs.Row.{rowAt}
 use borrow.Author.Needs.{needs}
-use Rattle.list_writer.proofs.rows.row_at.Statement.{statement}
-use Rattle.list_writer.proofs.rows.row_at.Tie as tie
+use Rattle.rows_writer.proofs.row_at.Statement.{statement}
+use Rattle.rows_writer.proofs.row_at.Tie as tie
 
 mul-at : tie.Need-mul-at
 mul-at c = search needs

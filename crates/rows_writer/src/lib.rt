@@ -1,32 +1,27 @@
 // Writing a body from rows of words that the caller lends, seven to an item and three to an entry: a measuring pass decides every refusal
 // and the length, and a writing pass cannot refuse. Words behind the last whole row are not looked at.
+//
+// Every public function takes any words, and spans that lie anywhere. A refused body is not written at all.
 ghost use mathlib.Core.Path.{_≡_};
 ghost use Prim.Native.Nat.{_+_, _*_, _≤_};
 ghost use lib.ListN.{length, getD};
 ghost use Rattle.item_row.specs.Row.{rowAt};
 ghost use Rattle.list_writer.specs.Bytes.{bodyBytes};
 ghost use Rattle.list_writer.specs.Answers.{encodedOf, laid};
-ghost use Rattle.list_writer.specs.Rows.{rowItems, entryLengths, measureRows};
-use crate::Encoded;
-use crate::Measured;
-use crate::answer;
-use crate::finish;
-use crate::least;
-use crate::refuse;
-use crate::write_footer;
-use crate::write_head;
-use crate::write_number;
+ghost use Rattle.rows_writer.specs.Rows.{rowItems, entryLengths, measureRows};
 use item_row::RowRead;
 use item_writer::Head;
+use list_writer::Encoded;
+use list_writer::Measured;
 
 // The first refusal of a body but 21, or its length.
 pub fn measure_rows(items: &[u64], entries: &[u64], store: &[u8], checked: bool) -> Measured
     ensures { λ r. ⌜ r ≡ measureRows (now (store .entry)) checked (now (items .entry)) (now (entries .entry)) ⌝ }
 {
     let count = items.len() / 7;
-    let rows = least(entries.len() / 3, 1024);
+    let rows = codec::least(entries.len() / 3, 1024);
     if 256 < count {
-        return refuse(refusal::ITEMS_TOO_MANY, 0);
+        return list_writer::refuse(refusal::ITEMS_TOO_MANY, 0);
     }
     let mut size = codec::var_u64_len(count as u64);
     let mut i: usize = 0;
@@ -37,7 +32,7 @@ pub fn measure_rows(items: &[u64], entries: &[u64], store: &[u8], checked: bool)
         if 0 < tails {
             let len = entry_len(entries, j);
             if ((u32::MAX - total) as u64) < len {
-                return refuse(refusal::TAIL_TOO_LARGE, i - 1);
+                return list_writer::refuse(refusal::TAIL_TOO_LARGE, i - 1);
             }
             total += len as u32;
             size += codec::var_u64_len(total as u64);
@@ -46,11 +41,11 @@ pub fn measure_rows(items: &[u64], entries: &[u64], store: &[u8], checked: bool)
         } else if i < count {
             match row_at(items, i) {
                 RowRead::Refused(number) => {
-                    return refuse(number, i);
+                    return list_writer::refuse(number, i);
                 }
                 RowRead::Item(item) => match item_writer::measure(item, store, checked, j, rows) {
                     Head::Refused(number) => {
-                        return refuse(number, i);
+                        return list_writer::refuse(number, i);
                     }
                     Head::Fine { len, count: n } => {
                         size += len;
@@ -60,7 +55,7 @@ pub fn measure_rows(items: &[u64], entries: &[u64], store: &[u8], checked: bool)
                 },
             }
         } else {
-            return finish(size, total);
+            return list_writer::finish(size, total);
         }
     }
 }
@@ -103,17 +98,12 @@ pub fn encode_rows(
     ensures { λ r. ⌜ (r ≡ encodedOf (measureRows (now (store .entry)) checked (now (items .entry)) (now (entries .entry))) (now (out .entry)) at) × (now (out .exit) ≡ laid r (now (out .entry)) at (bodyBytes (now (store .entry)) (rowItems (now (items .entry))) (entryLengths (now (entries .entry))) signature)) ⌝ }
 {
     let m = measure_rows(items, entries, store, checked);
-    if m.length == 0 {
-        return answer(m.number, m.item, 0);
-    }
-    if out.len() < at {
-        return answer(refusal::OUTPUT_SHORT, 0, 0);
-    }
-    if out.len() - at < m.length {
-        return answer(refusal::OUTPUT_SHORT, 0, 0);
+    let answer = list_writer::placing(m, out.len(), at);
+    if answer.length == 0 {
+        return answer;
     }
     let count = items.len() / 7;
-    let mut next = write_number(count as u64, out, at);
+    let mut next = codec::put_var_u64(count as u64, out, at);
     let mut i: usize = 0;
     let mut j: usize = 0;
     let mut tails: usize = 0;
@@ -121,20 +111,20 @@ pub fn encode_rows(
     loop {
         if 0 < tails {
             total += entry_len(entries, j) as u32;
-            next = write_number(total as u64, out, next);
+            next = codec::put_var_u64(total as u64, out, next);
             j += 1;
             tails -= 1;
         } else if i < count {
             let RowRead::Item(item) = row_at(items, i) else {
-                return answer(refusal::NONE, 0, 0);
+                return answer;
             };
-            next = write_head(item, store, out, next);
+            next = list_writer::write_head(item, store, out, next);
             let listed = item.entries();
             tails = listed.count;
             i += 1;
         } else {
-            write_footer(signature, out, at, next);
-            return answer(refusal::NONE, 0, m.length);
+            list_writer::write_footer(signature, out, at, next);
+            return answer;
         }
     }
 }

@@ -1,10 +1,10 @@
--- `list_writer::rows::measure_rows` meets its contract. The loop's invariant is that of `measure`, for the items of the rows up to the first that is none.
+-- `rows_writer::measure_rows` meets its contract. The loop's invariant is that of `measure`, for the items of the rows up to the first that is none.
 -- Assumes nothing.
 use denote.Ref.{now}
-use Rattle.list_writer.proofs.RowsMeasuring.{rows-many, rows-refused, bad-row, rows-end}
+use Rattle.rows_writer.proofs.RowsMeasuring.{rows-many, rows-refused, bad-row, rows-end}
 use Rattle.list_writer.proofs.Measuring.{Measuring, measuring-start, measuring-row, row-refused, measuring-item, item-refused}
-use Rattle.list_writer.proofs.RowItems.{items-few, row-there, row-item, lengths-length, length-at, words-there}
-use Rattle.list_writer.specs.Rows.{rowCount, rowItems, entryLengths}
+use Rattle.rows_writer.proofs.RowItems.{items-few, row-there, row-item, lengths-length, length-at, words-there}
+use Rattle.rows_writer.specs.Rows.{rowCount, rowItems, entryLengths}
 use Rattle.codec.specs.Shortest.{shortest}
 use borrow.Author.Needs.{needs}
 use native.Mathlib.Omega.{arith}
@@ -12,8 +12,8 @@ use mathlib.Core.Path.{_≡_, refl, sym, ap, _∙_}
 use Prim.Native.Nat.{_≤_, _-_, _+_, _<_, _*_}
 use lib.ListN.{length}
 use mathlib.Core.Path.{_≡_}
-use Rattle.list_writer.proofs.rows.measure_rows.Statement.{statement}
-use Rattle.list_writer.proofs.rows.measure_rows.Tie as tie
+use Rattle.rows_writer.proofs.measure_rows.Statement.{statement}
+use Rattle.rows_writer.proofs.measure_rows.Tie as tie
 
 abbrev Inv-loop : tie.InvT-loop
 Inv-loop items entries store checked count rows size₀ i₀ j₀ tails₀ total₀ size i j tails total = Measuring store checked (rowItems items) (entryLengths entries) size₀ i j tails total size × (length (entryLengths entries) ≡ rows) × (rows ≤ 1024) × (count ≤ 256) × (count ≡ rowCount items) × (size₀ ≡ length (shortest count))

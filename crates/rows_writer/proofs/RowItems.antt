@@ -14,7 +14,7 @@ use Rattle.log_item.specs.declared.LogItem.{LogItem}
 use Rattle.item_row.specs.declared.RowRead.{RowRead}
 use Rattle.item_row.specs.declared.RowRead.the-variants.{Item, Refused}
 use Rattle.item_row.specs.Row.{rowAt}
-use Rattle.list_writer.specs.Rows.{rowCount, before, itemsFrom, rowItems, lengthsFrom, entryLengths}
+use Rattle.rows_writer.specs.Rows.{rowCount, before, itemsFrom, rowItems, lengthsFrom, entryLengths}
 
 -- ---- items
 

@@ -1,0 +1,3 @@
+pub mod RowItems
+pub mod RowsMeasuring
+pub mod Determined
