@@ -77,12 +77,12 @@ pub fn write_rows(
 ) -> Encoded
     ensures { λ r. ⌜ RowsWritten checked (now (items .entry)) (now (entries .entry)) (now (store .entry)) (now (content .entry)) signature (now (out .entry)) r (now (out .exit)) ⌝ }
 {
-    let m = list_writer::measure_rows(items, entries, store, checked);
+    let m = rows_writer::measure_rows(items, entries, store, checked);
     let r = LogBatch::begin(m, items.len() / 7, content, out);
     if r.length == 0 {
         return r;
     }
     let at = r.length - m.length;
-    list_writer::encode_rows(items, entries, store, signature, checked, out, at);
+    rows_writer::encode_rows(items, entries, store, signature, checked, out, at);
     r
 }
