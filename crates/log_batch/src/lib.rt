@@ -1,7 +1,7 @@
 // Whole batches, read and written: header, block and body. From log_batch.rs, LogBatch.
 ghost use mathlib.Core.Path.{_≡_};
 ghost use mathlib.Core.Bool.{true, false};
-ghost use Prim.Native.Nat.{_+_, _≤_, _<_, _-_};
+ghost use Prim.Native.Nat.{_+_, _≤_, _<_};
 ghost use lib.ListN.{length};
 ghost use Rattle.log_batch.specs.Header.{frame, header, headerGot};
 ghost use Rattle.log_batch.specs.Batch.{frontBatch, sealedBatch, readBatch};
