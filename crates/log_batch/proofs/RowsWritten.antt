@@ -13,8 +13,8 @@ use Rattle.list_writer.specs.declared.Measured.{Measured}
 use Rattle.list_writer.specs.declared.Encoded.{Encoded}
 use Rattle.list_writer.specs.Bytes.{bodyBytes}
 use Rattle.list_writer.specs.Answers.{measureOf, encodedOf, laid}
-use Rattle.list_writer.specs.Rows.{rowCount, rowItems, entryLengths, measureRows}
-use Rattle.list_writer.proofs.RowsMeasuring.{rows-accepted}
+use Rattle.rows_writer.specs.Rows.{rowCount, rowItems, entryLengths, measureRows}
+use Rattle.rows_writer.proofs.RowsMeasuring.{rows-accepted}
 use Rattle.log_batch.specs.Written.{frontBytes, batchEncoded}
 use Rattle.log_batch.specs.Rows.{RowsWritten}
 use Rattle.log_batch.proofs.Planning.{body-small, planned}

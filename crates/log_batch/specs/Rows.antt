@@ -17,7 +17,7 @@ use Rattle.item_batch.specs.Table.{agreeing}
 use Rattle.list_writer.specs.declared.Encoded.{Encoded}
 use Rattle.list_writer.specs.Bytes.{bodyBytes}
 use Rattle.list_writer.specs.Answers.{laid}
-use Rattle.list_writer.specs.Rows.{rowCount, rowItems, entryLengths, measureRows}
+use Rattle.rows_writer.specs.Rows.{rowCount, rowItems, entryLengths, measureRows}
 use Rattle.rows_reader.specs.Lent.{RowsRead}
 use Rattle.log_batch.specs.declared.LogBatch.{LogBatch}
 use Rattle.log_batch.specs.declared.BatchCheck.{BatchCheck}

@@ -75,12 +75,12 @@ pub fn write_rows(
 ) -> Encoded
     ensures { λ r. ⌜ RowsWritten checked (now (items .entry)) (now (entries .entry)) (now (store .entry)) (now (content .entry)) signature (now (out .entry)) r (now (out .exit)) ⌝ }
 {
-    let m = list_writer::measure_rows(items, entries, store, checked);
+    let m = rows_writer::measure_rows(items, entries, store, checked);
     let r = plan(m, items.len() / 7, content, out.len());
     if r.length == 0 {
         return r;
     }
     let at = write_front(content, r.length, out);
-    list_writer::encode_rows(items, entries, store, signature, checked, out, at);
+    rows_writer::encode_rows(items, entries, store, signature, checked, out, at);
     r
 }

@@ -7,7 +7,7 @@ use mathlib.Core.List.{List}
 use Rattle.list_writer.specs.declared.Encoded.{Encoded}
 use Rattle.list_writer.specs.Bytes.{bodyBytes}
 use Rattle.list_writer.specs.Answers.{laid}
-use Rattle.list_writer.specs.Rows.{rowItems, entryLengths}
+use Rattle.rows_writer.specs.Rows.{rowItems, entryLengths}
 use Rattle.log_batch.specs.Written.{framed}
 use Rattle.log_batch.specs.Rows.{RowsWritten}
 use Rattle.raft_log.specs.Reply.{Reply}

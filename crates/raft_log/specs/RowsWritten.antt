@@ -8,7 +8,7 @@ use lib.ListN.{length}
 use Rattle.list_writer.specs.declared.Encoded.{Encoded}
 use Rattle.list_writer.specs.Bytes.{bodyBytes}
 use Rattle.list_writer.specs.Answers.{encodedOf, laid}
-use Rattle.list_writer.specs.Rows.{rowCount, rowItems, entryLengths, measureRows}
+use Rattle.rows_writer.specs.Rows.{rowCount, rowItems, entryLengths, measureRows}
 use Rattle.log_batch.specs.Written.{framed, batchEncoded}
 use Rattle.raft_log.specs.Reply.{Reply, reply}
 

@@ -17,7 +17,7 @@ pub extern "C" fn raft_log_write_body(
 ) -> u32
     ensures { λ r. ⌜ BodyReplied true (now (items .entry)) (now (entries .entry)) (now (store .entry)) signature (now (out .entry)) (reply r (now (answer .exit))) (now (out .exit)) ⌝ }
 {
-    let r = list_writer::encode_rows(items, entries, store, signature, true, out, 0);
+    let r = rows_writer::encode_rows(items, entries, store, signature, true, out, 0);
     put_written(r, answer)
 }
 
@@ -33,7 +33,7 @@ pub extern "C" fn raft_log_write_body_unchecked(
 ) -> u32
     ensures { λ r. ⌜ BodyReplied false (now (items .entry)) (now (entries .entry)) (now (store .entry)) signature (now (out .entry)) (reply r (now (answer .exit))) (now (out .exit)) ⌝ }
 {
-    let r = list_writer::encode_rows(items, entries, store, signature, false, out, 0);
+    let r = rows_writer::encode_rows(items, entries, store, signature, false, out, 0);
     put_written(r, answer)
 }
 
