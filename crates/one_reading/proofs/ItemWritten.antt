@@ -2,7 +2,7 @@
 -- Assumes nothing.
 use Prim.Native.Nat.{ℕ, zero, suc, _+_, _-_, _≤_, _<_, _^_}
 use mathlib.Core.Path.{_≡_, refl, sym, ap, _∙_}
-use mathlib.Core.Bool.{Bool, true, false, cond}
+use mathlib.Core.Bool.{true, false, cond}
 use mathlib.Core.List.{List, [], _∷_, _++_, map, append-assoc}
 use native.Mathlib.Omega.{arith}
 use lib.ListN.{length, take, drop, length-take}
@@ -39,7 +39,7 @@ use Rattle.refusal.specs.First.{firstOf}
 use Rattle.item_writer.specs.Answers.{sumOf, rowLengths, itemBytes, itemRefusal}
 use Rattle.item_writer.specs.Relocated.{spanAt, keyAt, stated, contentAt, itemAt, rowsFrom, itemRows, spansOf, numbersOf, Small, none, one, Writable}
 use Rattle.item_writer.proofs.Lengths.{and-both, part-length, span-length}
-use Rattle.item_writer.proofs.Refusals.{untaken, content-inside, content-allowed}
+use Rattle.item_writer.proofs.Refusals.{untaken, taken, content-inside, content-allowed}
 use Rattle.item_writer.proofs.Tails.{tailsOf, sum-rises}
 
 -- ---- pieces
@@ -207,10 +207,6 @@ module _ (s : List ℕ) (x : LogItem) (lengths : List ℕ) (t : ℕ) (w : Writab
 first-none : (n r : ℕ) → firstOf n r ≡ 0 → (n ≡ 0) × (r ≡ 0)
 first-none zero r h = (refl, h)
 first-none (suc n) r h = absurd (omega arith)
-
-taken : (t : Bool) (r rest : ℕ) → cond t rest (suc r) ≡ 0 → (t ≡ true) × (rest ≡ 0)
-taken true r rest e = (refl, e)
-taken false r rest e = absurd (omega arith)
 
 -- What `encode` does not refuse can be written, fits, and can be read.
 pub record Accepted (s : List ℕ) (x : LogItem) (lengths : List ℕ) (t : ℕ) (out : List ℕ) (at : ℕ) : Type 0 where
