@@ -123,6 +123,10 @@ pub untaken : (t : Bool) (r rest : ℕ) → cond t (suc r) rest ≡ 0 → (t ≡
 untaken true r rest e = absurd (omega arith)
 untaken false r rest e = (refl, e)
 
+pub taken : (t : Bool) (r rest : ℕ) → cond t rest (suc r) ≡ 0 → (t ≡ true) × (rest ≡ 0)
+taken true r rest e = (refl, e)
+taken false r rest e = absurd (omega arith)
+
 -- Spans that are not refused lie in the store, and what follows does not refuse.
 pub all-inside : (b : Bool) (rest : ℕ) → firstOf (spanRefusal b) rest ≡ 0 → (b ≡ true) × (rest ≡ 0)
 all-inside true rest e = (refl, e)

@@ -2,7 +2,7 @@
 -- Assumes nothing.
 use Prim.Native.Nat.{ℕ, zero, suc, _+_, _≤_, _<_}
 use mathlib.Core.Path.{_≡_, refl, sym, ap, _∙_}
-use mathlib.Core.Bool.{Bool, true, false, cond}
+use mathlib.Core.Bool.{Bool, true, false}
 use mathlib.Core.List.{List, [], _∷_, _++_}
 use native.Mathlib.Omega.{arith}
 use lib.Dec.{leb}
@@ -17,7 +17,7 @@ use Rattle.item_writer.specs.declared.PartWrote.{PartWrote}
 use Rattle.item_writer.specs.declared.PartWrote.the-variants as part
 use Rattle.item_writer.specs.Answers.{pieceRefusal, partWrote, itemPlaced}
 use Rattle.item_writer.specs.Private.{Room, Stored, fitted}
-use Rattle.item_writer.proofs.Refusals.{all-inside}
+use Rattle.item_writer.proofs.Refusals.{taken, all-inside}
 
 sets-append : (bs cs out : List ℕ) (at : ℕ) → sets out at (bs ++ cs) ≡ sets (sets out at bs) (at + length bs) cs
 sets-append [] cs out at = let e : at ≡ at + 0 = omega arith in ap (λ (k : ℕ). sets out k cs) e
@@ -117,11 +117,9 @@ module _ (b : Bool) (out bs : List ℕ) (at : ℕ) {d : Bool} {n l r : ℕ} (sma
   module _ (z : r ≡ 0) where
     pub piece-ready : (b ≡ true) × Room out at bs
     unfolding pieceRefusal
-    piece-ready = let p = all-inside b _ (sym same-refusal ∙ z) in (p .0, record { fits = fits-told (leb (at + length bs) (length out)) refl (p .1) })
-      where
-        fits-told : (c : Bool) → leb (at + length bs) (length out) ≡ c → _≡_ {A = ℕ} (cond c 0 21) 0 → at + length bs ≤ length out
-        fits-told true h k = leb-true _ _ h
-        fits-told false h k = absurd (omega arith)
+    piece-ready =
+        let p = all-inside b _ (sym same-refusal ∙ z) in
+        (p .0, record { fits = leb-true _ _ (taken (leb (at + length bs) (length out)) 20 0 (p .1) .0) })
 
     pub piece-stored : {next : ℕ} {later : List ℕ} → Stored out at bs next later → Answered b out at bs (part.Next next) later
     piece-stored {next} {later} w =
