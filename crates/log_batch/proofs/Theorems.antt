@@ -23,7 +23,12 @@ use Rattle.list_writer.specs.Bytes.{itemsBytes, listBytes, bodyBytes}
 use Rattle.list_writer.specs.Refusing.{fine, itemsVerdict, listVerdict}
 use Rattle.list_writer.specs.Answers.{measuredOf, measureOf, encoded, laid}
 use Rattle.body_check.specs.Reading.{accepted, rejected, Answer, readItems}
-use Rattle.body_check.specs.Body.{readBody, Acceptable}
+use Rattle.one_reading.specs.Spelling.{NumberIn, Spells, list}
+use Rattle.one_reading.specs.Acceptable.{Acceptable, Begins}
+use Rattle.one_reading.specs.Plain.{InPlainForm}
+use Rattle.one_reading.specs.Rows.{Joined, Indexed}
+use Rattle.one_reading.specs.Place.{Asks}
+use Rattle.body_check.specs.Body.{readBody}
 use Rattle.body_check.specs.declared.Wanted.the-variants.{Exactly}
 use Rattle.item_batch.specs.Writing.{listed, rowLengths, BodyWritten, bodyItems, bodyRows, keysAndContents, AllSmall}
 use Rattle.item_batch.specs.declared.LogItemBatch.{LogItemBatch}
@@ -44,15 +49,9 @@ use lib.Bits.{bitXor}
 use Rattle.crc.specs.Crc.{crcOf}
 use Rattle.log_item.specs.declared.Form.{Form}
 use Rattle.log_item.specs.declared.Form.the-variants.{Any, Plain}
-use Rattle.log_item.specs.Rows.{Joined}
-use Rattle.log_item.specs.Spelling.{NumberIn}
-use Rattle.one_reading.proofs.Numbers.{Asks}
 use Rattle.body_check.specs.declared.BodyCheck.the-variants as check
 use Rattle.body_check.specs.declared.PlainForm.the-variants as plain
-use Rattle.body_check.specs.Spelling.{Spells, list, Begins}
 use Rattle.seal.specs.Seal.{sealedPart, sealCheck, contentLength}
-use Rattle.body_check.specs.Rows.{Indexed}
-use Rattle.body_check.specs.Plain.{InPlainForm}
 use Rattle.body_check.specs.Answers.{checkOf, yesNo, plainBody}
 use Rattle.one_reading.proofs.Accepts.{of-accepted}
 use Rattle.one_reading.proofs.Listing.{complete, sound, items-joined, items-indexed}
