@@ -4,3 +4,4 @@ pub mod Framing
 pub mod Determined
 pub mod Again
 pub mod Theorems
+pub mod TheoremsWritten

@@ -185,3 +185,29 @@ planned m items content room {r} told h = first (eqb items 0 && eqb (length cont
         → Planned m content room r
     first true e = none e
     first false e = second (eqb (m .length) 0) refl e
+
+-- An answer that refuses has no length.
+record Silent (r : Encoded) : Type 0 where
+  none : (r .number ≡ 0 → ⊥) → r .length ≡ 0
+
+either : (b : Bool) {x y : Encoded} → Silent x → Silent y → Silent (cond b x y)
+either true h k = h
+either false h k = k
+
+silent : (m : Measured) (items : ℕ) (content : List ℕ) (room : ℕ) → Silent (batchEncoded m items content room)
+unfolding batchEncoded
+silent m items content room =
+    either (eqb items 0 && eqb (length content) 0) (no 0 0)
+    (either (eqb (m .length) 0) (no (m .number) (m .item))
+    (either (ltb 2147483647 (m .total)) (no 22 0)
+    (either (eqb (m .total) (length content)) (either (leb size room) (record { none = λ h. absurd (h refl) }) (no 21 0)) (no 20 0))))
+  where
+    size : ℕ
+    size = 16 + length (blockBytes content) + m .length
+
+    no : (n i : ℕ) → Silent (encoded n i 0)
+    no n i = record { none = λ h. refl }
+
+pub refused-length : (m : Measured) (items : ℕ) (content : List ℕ) (room : ℕ) {r : Encoded} → r ≡ batchEncoded m items content room → (r .number ≡ 0 → ⊥)
+    → r .length ≡ 0
+refused-length m items content room e h = (rw (← e) at (silent m items content room)) .none h

@@ -1,63 +1,51 @@
--- What document 01 says of bodies, of whole batches, and of what is written and read back, proved of the definitions that the contracts cite;
--- and its worked examples. What it says of numbers and words stands in codec's Theorems.antt, of one item in Agree.antt.
+-- What document 01 says of reading bodies and whole batches, proved of the definitions that the contracts cite; and its worked examples. What it
+-- says of writing stands in TheoremsWritten.antt, of numbers and words in codec's Theorems.antt, of one item in one_reading's Agree.antt.
 -- Assumes nothing.
-use Prim.Native.Nat.{ℕ, _+_, _-_, _^_, _≤_, _<_}
+use Prim.Native.Nat.{ℕ, _+_, _-_, _≤_}
 use mathlib.Core.Path.{_≡_, refl, ap, ap₂, _∙_, sym}
-use mathlib.Core.Bool.{Bool}
-use mathlib.Core.List.{List, [], _∷_, _++_, append-assoc}
+use mathlib.Core.List.{List, _++_, append-assoc}
+use mathlib.Core.Logic.{_↔_, _⊎_, inl, inr}
 use native.Mathlib.Omega.{arith}
-use borrow.Author.Tests.{le-leb, eq-eqb, ne-eqb}
+use borrow.Author.Tests.{le-leb}
 use lib.ListN.{length, take, drop, length-append, length-drop}
 use lib.Seq.{take-append-seam, take-append-le, drop-append-le, take-at}
+use lib.Bits.{bitXor}
 use Rattle.codec.specs.Number.{readFrom, readNumber}
 use Rattle.codec.specs.Shortest.{spell, shortest}
 use Rattle.codec.specs.Word.{bigEndian, littleEndian}
 use Rattle.codec.specs.Byte.{Bytes}
+use Rattle.crc.specs.Crc.{crcOf}
+use Rattle.seal.specs.Seal.{sealedPart, sealCheck, contentLength}
 use Rattle.log_item.specs.Got.{Got, got, refused, done, bind, _>>_}
 use Rattle.log_item.specs.Reading.{byte, number, span, command, putAt, keyValue, firstIndex, entryIndexes, content, head, tail, tails, oneItem}
 use Rattle.log_item.specs.declared.Span.{Span}
 use Rattle.log_item.specs.declared.LogItem.{LogItem}
 use Rattle.log_item.specs.declared.EntryIndex.{EntryIndex}
-use Rattle.list_writer.specs.declared.Encoded.{Encoded}
-use Rattle.list_writer.specs.Bytes.{itemsBytes, listBytes, bodyBytes}
-use Rattle.list_writer.specs.Refusing.{fine, itemsVerdict, listVerdict}
-use Rattle.list_writer.specs.Answers.{measuredOf, measureOf, encoded, laid}
-use Rattle.body_check.specs.Reading.{accepted, rejected, Answer, readItems}
-use Rattle.body_check.specs.Body.{readBody, Acceptable}
-use Rattle.body_check.specs.declared.Wanted.the-variants.{Exactly}
-use Rattle.item_batch.specs.Writing.{listed, rowLengths, BodyWritten, bodyItems, bodyRows, keysAndContents, AllSmall}
-use Rattle.item_batch.specs.declared.LogItemBatch.{LogItemBatch}
-use Rattle.one_reading.proofs.Written.{written-spelled, written-bytes, written-kept, read-back, other-signature, table-small, buffer-written, buffer-read-back}
-use Rattle.body_check.specs.Total.{agreeing}
-use Rattle.item_batch.specs.Table.{tableOf, emptyTable}
-use Rattle.log_batch.specs.declared.LogBatch.{LogBatch}
-use Rattle.log_batch.specs.Header.{frame, header}
-use Rattle.log_batch.specs.Batch.{blockOf, bodyOf, passes, frontBatch, sealedBatch, batchTable, readBatch}
-use Rattle.log_batch.specs.Written.{blockBytes, framed, frameOf, batchEncoded, BatchWritten}
-use Rattle.log_batch.specs.Examples.{AllRight, table}
-use Rattle.log_batch.proofs.Frames.{header-known, front-known, batch-known}
-use Rattle.log_batch.proofs.Planning.{planned, verdict-of}
-use Rattle.log_batch.proofs.Framing.{whole}
-use Rattle.log_batch.proofs.Again.{body-good, content-size, block-again, body-again, content-again, sealed-again}
-use mathlib.Core.Logic.{_↔_, _⊎_, inl, inr}
-use lib.Bits.{bitXor}
-use Rattle.crc.specs.Crc.{crcOf}
 use Rattle.log_item.specs.declared.Form.{Form}
 use Rattle.log_item.specs.declared.Form.the-variants.{Any, Plain}
-use Rattle.log_item.specs.Rows.{Joined}
-use Rattle.log_item.specs.Spelling.{NumberIn}
-use Rattle.one_reading.proofs.Numbers.{Asks}
+use Rattle.body_check.specs.Reading.{accepted, rejected, Answer, readItems}
+use Rattle.body_check.specs.Body.{readBody}
+use Rattle.body_check.specs.declared.Wanted.the-variants.{Exactly}
+use Rattle.body_check.specs.Total.{agreeing}
 use Rattle.body_check.specs.declared.BodyCheck.the-variants as check
 use Rattle.body_check.specs.declared.PlainForm.the-variants as plain
-use Rattle.body_check.specs.Spelling.{Spells, list, Begins}
-use Rattle.seal.specs.Seal.{sealedPart, sealCheck, contentLength}
-use Rattle.body_check.specs.Rows.{Indexed}
-use Rattle.body_check.specs.Plain.{InPlainForm}
 use Rattle.body_check.specs.Answers.{checkOf, yesNo, plainBody}
+use Rattle.body_check.proofs.Refusing.{refusal-some}
+use Rattle.item_batch.specs.Table.{tableOf, emptyTable}
+use Rattle.one_reading.specs.Spelling.{NumberIn, Spells, list}
+use Rattle.one_reading.specs.Acceptable.{Acceptable, Begins}
+use Rattle.one_reading.specs.Plain.{InPlainForm}
+use Rattle.one_reading.specs.Rows.{Joined, Indexed}
+use Rattle.one_reading.specs.Place.{Asks}
 use Rattle.one_reading.proofs.Accepts.{of-accepted}
 use Rattle.one_reading.proofs.Listing.{complete, sound, items-joined, items-indexed}
 use Rattle.one_reading.proofs.One.{one-spelled}
 use Rattle.one_reading.proofs.Bodies.{sound-body, complete-body, sound-plain, complete-plain}
+use Rattle.log_batch.specs.declared.LogBatch.{LogBatch}
+use Rattle.log_batch.specs.Header.{frame, header}
+use Rattle.log_batch.specs.Batch.{blockOf, bodyOf, passes, frontBatch, sealedBatch, batchTable, readBatch}
+use Rattle.log_batch.specs.Examples.{AllRight, table}
+use Rattle.log_batch.proofs.Frames.{header-known, front-known, batch-known}
 
 -- ---- bodies
 
@@ -90,6 +78,10 @@ pub accepted-when : (body : List ℕ) (signature : ℕ)
     ↔ ((xs : List LogItem) × (rows : List EntryIndex) × (u : ℕ) × (bytes : List ℕ) × Acceptable body signature xs rows u bytes)
 accepted-when body signature =
     (λ h. let b = sound-body body signature (h .4) in (h .0, h .1, h .2, b .0, b .1), λ h. (h .0, h .1, h .2, length (h .3), complete-body body signature (h .4)))
+
+-- The number of a refused body is never 0, which stands for no refusal.
+pub refused-number : (body : List ℕ) (signature : ℕ) {r i : ℕ} → readBody body signature ≡ rejected r i → r ≡ 0 → ⊥
+refused-number body signature e = refusal-some body signature e
 
 -- In a body other bytes between the last item and the footer change nothing either, where the footer is right for them.
 pub body-tail-ignored : (body : List ℕ) (signature : ℕ) {xs : List LogItem} {rows : List EntryIndex} {u q : ℕ} → readBody body signature ≡ accepted xs rows u q
@@ -159,31 +151,6 @@ module _ (body block : Span) where
   unfolding tableOf
   check-refused r i = refl
 
--- ---- bodies written
-
--- What is written of a table is spelled, with shortest numbers, by its list with its places worked out.
-module _ (checked : Bool) (t : LogItemBatch) (s : List ℕ) (signature : ℕ) (out : List ℕ) {r : Encoded} {later : List ℕ} (small : AllSmall (t .items))
-    (w : BodyWritten checked t s signature out r later) (z : r .number ≡ 0) where
-  pub body-spelled : (total : ℕ) × (take (r .length) later ≡ bodyBytes s (listed t) (rowLengths t) signature)
-      × Spells (NumberIn Plain) (bodyItems s (listed t) (rowLengths t)) (bodyRows (listed t) (rowLengths t)) total (listBytes s (listed t) (rowLengths t))
-  body-spelled =
-      let b = buffer-written checked t s signature out w z in
-      (b .0, b .1, written-spelled s checked (listed t) (rowLengths t) (b .0) (table-small t small) (b .2) .0)
-
-  module _ (bytes : Bytes s) (key : signature < 2 ^ 32) where
-    -- Reading a written body under the same signature gives that list and the same key and content bytes.
-    pub body-read-back : (total : ℕ)
-        × (readBody (take (r .length) later) signature
-        ≡ accepted (bodyItems s (listed t) (rowLengths t)) (bodyRows (listed t) (rowLengths t)) total (length (listBytes s (listed t) (rowLengths t))))
-        × (keysAndContents (take (r .length) later) (bodyItems s (listed t) (rowLengths t)) ≡ keysAndContents s (listed t))
-    body-read-back = buffer-read-back checked t s signature out small bytes key w z
-
-    -- A written body, read under a second signature, is refused with 6 exactly when the two signatures, none being 0, differ.
-    pub second-signature : (b : ℕ) → (readBody (take (r .length) later) b ≡ rejected 6 0) ↔ (signature ≡ b → ⊥)
-    second-signature b =
-        let k = buffer-written checked t s signature out w z in
-        rw (k .1) (other-signature s checked (listed t) (rowLengths t) (k .0) (table-small t small) (k .2) bytes signature b key)
-
 -- ---- whole batches
 
 -- Document 01's worked examples hold of the definitions, by computation.
@@ -244,6 +211,21 @@ pub refused-empty : (body block : Span) (r i : ℕ) → tableOf body block (reje
 unfolding tableOf
 refused-empty body block r i = refl
 
+-- So does a refused reading of a whole batch: what it hands back is the empty table with its number and item.
+pub refused-batch-empty : (s : List ℕ) (signature : ℕ) → let t = readBatch s signature in (t .refusal .number ≡ 0 → ⊥) → t ≡ emptyTable (t .refusal .number) (t .refusal .item)
+unfolding readBatch tableOf
+refused-batch-empty s signature = go (sealedBatch s signature 0)
+  where
+    empty : (body block : Span) (a : Answer) → let t = tableOf body block a in (t .refusal .number ≡ 0 → ⊥) → t ≡ emptyTable (t .refusal .number) (t .refusal .item)
+    empty body block (accepted xs rows u q) h = absurd (h refl)
+    empty body block (rejected r i) h = refl
+
+    go : (g : Got LogBatch) → let t = batchTable s g in (t .refusal .number ≡ 0 → ⊥) → t ≡ emptyTable (t .refusal .number) (t .refusal .item)
+    go (got x q) h =
+        empty (record { at = x .offset; len = x .len - x .offset }) (record { at = 16; len = x .offset - 16 })
+        (agreeing (Exactly (contentLength (blockOf x s))) (readItems Any (sealedPart (bodyOf x s)))) h
+    go (refused r) h = refl
+
 -- The body of a whole batch is read as it is by itself; then its entry total is held to the block's content.
 pub body-read : (s : List ℕ) (signature : ℕ) {h : LogBatch} {q : ℕ} → sealedBatch s signature 0 ≡ got h q
     → readBatch s signature ≡ tableOf (record { at = h .offset; len = h .len - h .offset }) (record { at = 16; len = h .offset - 16 })
@@ -302,78 +284,3 @@ module _ (a t : List ℕ) (signature : ℕ) {h : LogBatch} {q : ℕ} (e : header
           let body : bodyOf x (a ++ t) ≡ bodyOf x a = front (x .len - x .offset) (x .offset) (omega (arith, k .start, k .long, k .there)) in
           rw (block, body)
       go (refused r) f = refl
-
--- Where the whole-batch writer answers a length, the batch stands at the start of the buffer, and behind it what stood there before. Its content
--- stands after the header. Where content and items are bytes, all below 256, the batch reads as its body does by itself, with the entry total
--- held to the content.
-module _ {checked : Bool} {xs : List LogItem} {ns s content : List ℕ} {signature : ℕ} {out : List ℕ} {r : Encoded} {later : List ℕ}
-    (w : BatchWritten checked xs ns s content signature out r later) (h : r .length ≡ 0 → ⊥) where
-  abbrev body : List ℕ
-  body = bodyBytes s xs ns signature
-
-  pub batch-stands : later ≡ framed content (bodyBytes s xs ns signature) ++ drop (r .length) out
-  batch-stands = whole w h .bytes
-
-  pub content-stands : take (length content) (drop 16 later) ≡ content
-  content-stands = rw batch-stands (content-again content body (drop (r .length) out))
-
-  pub written-read : Bytes content → Bytes (listBytes s xs ns) → signature < 2 ^ 32
-      → readBatch later signature
-      ≡ tableOf (record { at = 16 + length (blockBytes content); len = length (bodyBytes s xs ns signature) })
-      (record { at = 16; len = length (blockBytes content) })
-      (agreeing (Exactly (length content)) (readBody (bodyBytes s xs ns signature) signature))
-  written-read bytes items key =
-      let t : List ℕ = drop (r .length) out in
-      let k = whole w h in
-      let long : 16 + length (blockBytes content) + length body - (16 + length (blockBytes content)) ≡ length body = omega arith in
-      let block : 16 + length (blockBytes content) - 16 ≡ length (blockBytes content) = omega arith in
-      let size : contentLength (blockOf (frameOf content body) (framed content body ++ t)) ≡ length content =
-      ap contentLength (block-again content body t) ∙ content-size content in
-      let sealed = sealed-again content body t (rw (k .size) at (k .few)) signature bytes (body-good s xs ns signature items key) in
-      ap (λ (l : List ℕ). readBatch l signature) batch-stands ∙ body-read (framed content body ++ t) signature sealed
-      ∙ (rw (size, body-again content body t, long, block))
-
-  -- Reading a written batch gives the list with its places worked out, its rows, and the content's length as the entry total. The numbers of
-  -- the items are those of their types, below 2^64, and store and content are bytes.
-  module _ (small : AllSmall xs) where
-    fine-total : listVerdict s checked xs ns ≡ fine (length content)
-    fine-total =
-        let k = planned (measureOf s checked xs ns) (length xs) content (length out) (w .answer) h in
-        verdict-of s checked xs ns (k .some) ∙ ap fine (k .total)
-
-    pub batch-read-back : Bytes s → Bytes content → signature < 2 ^ 32
-        → readBatch later signature
-        ≡ tableOf (record { at = 16 + length (blockBytes content); len = length (bodyBytes s xs ns signature) })
-        (record { at = 16; len = length (blockBytes content) })
-        (accepted (bodyItems s xs ns) (bodyRows xs ns) (length content) (length (listBytes s xs ns)))
-    batch-read-back store bytes key =
-        let items : Bytes (listBytes s xs ns) = written-bytes s checked xs ns (length content) small fine-total store in
-        let read = read-back s checked xs ns (length content) small fine-total store signature key in
-        written-read bytes items key ∙ (rw (read, eq-eqb (length content) (length content) refl))
-
-    -- Each key and content has, in the body of the written batch, the bytes that it had.
-    pub batch-kept : keysAndContents (bodyOf (frameOf content body) later) (bodyItems s xs ns) ≡ keysAndContents s xs
-    batch-kept =
-        let t : List ℕ = drop (r .length) out in
-        ap (λ (l : List ℕ). keysAndContents (bodyOf (frameOf content body) l) (bodyItems s xs ns)) batch-stands
-        ∙ ap (λ (l : List ℕ). keysAndContents l (bodyItems s xs ns)) (body-again content body t)
-        ∙ written-kept s checked xs ns (length content) small fine-total signature
-
--- Where the answer has no length, the buffer is as it was.
-pub batch-absent : {checked : Bool} {xs : List LogItem} {ns s content : List ℕ} {signature : ℕ} {out : List ℕ} {r : Encoded} {later : List ℕ}
-    → BatchWritten checked xs ns s content signature out r later → r .length ≡ 0 → later ≡ out
-unfolding laid
-batch-absent {r = r} w h = w .written ∙ (rw (eq-eqb (r .length) 0 h))
-
--- No items and no content: nothing is refused, and the length is 0. No items with content is 20.
-module _ (s ns : List ℕ) (checked : Bool) (room : ℕ) where
-  pub none-written : batchEncoded (measureOf s checked [] ns) 0 [] room ≡ encoded 0 0 0
-  unfolding batchEncoded
-  none-written = refl
-
-  pub content-alone : (b : ℕ) (bs : List ℕ) → batchEncoded (measureOf s checked [] ns) 0 (b ∷ bs) room ≡ encoded 20 0 0
-  unfolding batchEncoded measureOf measuredOf listVerdict itemsVerdict listBytes itemsBytes shortest spell
-  content-alone b bs =
-      let some : length (b ∷ bs) ≡ 0 → ⊥ = λ z. omega arith in
-      let more : 0 ≡ length (b ∷ bs) → ⊥ = λ z. omega arith in
-      rw (ne-eqb (length (b ∷ bs)) 0 some, ne-eqb 0 (length (b ∷ bs)) more)

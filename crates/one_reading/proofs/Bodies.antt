@@ -17,11 +17,11 @@ use Rattle.log_item.specs.declared.EntryIndex.{EntryIndex}
 use Rattle.codec.specs.Byte.{Bytes}
 use Rattle.one_reading.proofs.Place.{bytes-at, at-front}
 use Rattle.body_check.specs.declared.PlainForm.the-variants as plain
-use Rattle.body_check.specs.Spelling.{Begins}
+use Rattle.one_reading.specs.Acceptable.{Begins, Acceptable}
+use Rattle.one_reading.specs.Plain.{InPlainForm}
 use Rattle.body_check.specs.Reading.{Answer, accepted, rejected, readItems}
 use Rattle.seal.specs.Seal.{sealedPart, footer, sealCheck}
-use Rattle.body_check.specs.Body.{unless, readBody, Acceptable}
-use Rattle.body_check.specs.Plain.{InPlainForm}
+use Rattle.body_check.specs.Body.{unless, readBody}
 use Rattle.body_check.specs.Answers.{plainOf, plainBody}
 use Rattle.one_reading.proofs.Accepts.{of-accepted}
 use Rattle.one_reading.proofs.Listing.{complete, sound, spells-some, begins-any}
@@ -118,6 +118,16 @@ module _ (body : List ℕ) (signature : ℕ) where
       let some : 0 < length (a .rest) = omega (arith, spells-some Any (a .begins .spells), simp length-append at (ap length (a .begins .split))) in
       rw (a .split, sealed-of (a .rest) (a .last) signature some (a .four) (a .checks), part-of (a .rest) (a .last) (a .four)) (complete Any (a .begins))
 
+  -- A body in plain form gets a yes.
+  pub complete-plain : InPlainForm body signature → plainBody body signature ≡ plain.Yes
+  unfolding plainBody
+  complete-plain f =
+      let a = f .acceptable in
+      let part : sealedPart body ≡ a .rest = rw (a .split) (part-of (a .rest) (a .last) (a .four)) in
+      let strict : Begins Plain (a .rest) (f .items) (f .rows) (f .total) (f .bytes) =
+      record { ignored = a .begins .ignored; split = a .begins .split; spells = f .shortest; within = a .begins .within } in
+      rw (complete-body a, part, complete Plain strict)
+
   -- A body for which the test says yes is in plain form.
   pub sound-plain : Bytes body → plainBody body signature ≡ plain.Yes → InPlainForm body signature
   unfolding plainBody
@@ -132,13 +142,3 @@ module _ (body : List ℕ) (signature : ℕ) where
         acceptable = acceptable-of (parts (t .0 .4) .0) (begins-any Plain (h .1));
         shortest = h .1 .spells;
       }
-
-  -- A body in plain form gets a yes.
-  pub complete-plain : InPlainForm body signature → plainBody body signature ≡ plain.Yes
-  unfolding plainBody
-  complete-plain f =
-      let a = f .acceptable in
-      let part : sealedPart body ≡ a .rest = rw (a .split) (part-of (a .rest) (a .last) (a .four)) in
-      let strict : Begins Plain (a .rest) (f .items) (f .rows) (f .total) (f .bytes) =
-      record { ignored = a .begins .ignored; split = a .begins .split; spells = f .shortest; within = a .begins .within } in
-      rw (complete-body a, part, complete Plain strict)

@@ -13,10 +13,11 @@ use Rattle.log_item.specs.declared.LogItem.{LogItem}
 use Rattle.log_item.specs.declared.EntryIndex.{EntryIndex}
 use Rattle.log_item.specs.Entries.{entriesOf, typeOf}
 use Rattle.log_item.specs.Got.{got}
-use Rattle.log_item.specs.Limits.{Each, one, RowFits}
-use Rattle.log_item.specs.Spelling.{NumberIn, Spanned, spanned, Contents, no-entries, entries, clean, compact, put, delete, Tails, no-more, next, OneItem, item}
+use Rattle.one_reading.specs.Limits.{Each, one, RowFits}
+use Rattle.one_reading.specs.Spelling.{NumberIn, Spanned, spanned, Contents, no-entries, entries, clean, compact, put, delete, Tails, no-more, next, OneItem, item}
+use Rattle.one_reading.specs.Place.{At}
 use Rattle.log_item.specs.Reading.{span, command, putAt, keyValue, firstIndex, entryIndexes, content, head, tail, tails, oneItem}
-use Rattle.one_reading.proofs.Place.{At, cut, inside, complete-byte}
+use Rattle.one_reading.proofs.Place.{cut, inside, complete-byte}
 use Rattle.one_reading.proofs.Numbers.{number-some, complete-number}
 use Rattle.one_reading.proofs.ItemRows.{tails-length}
 

@@ -7,7 +7,7 @@ use Rattle.log_item.specs.declared.Span.{Span}
 use Rattle.log_item.specs.declared.LogItemContent.{LogItemContent}
 use Rattle.log_item.specs.declared.LogItem.{LogItem}
 use Rattle.log_item.specs.declared.EntryIndex.{EntryIndex}
-use Rattle.log_item.specs.Spelling.{NumberIn, Spanned, spanned, Contents, no-entries, entries, clean, compact, put, delete, Tails, no-more, next, OneItem, item}
+use Rattle.one_reading.specs.Spelling.{NumberIn, Spanned, spanned, Contents, no-entries, entries, clean, compact, put, delete, Tails, no-more, next, OneItem, item}
 use Rattle.one_reading.proofs.Numbers.{plain-any}
 
 module _ (N M : ℕ → List ℕ → Type 0) (f : (n : ℕ) (x : List ℕ) → N n x → M n x) where

@@ -8,11 +8,11 @@ use lib.ListN.{length}
 use Rattle.log_item.specs.declared.LogItem.{LogItem}
 use Rattle.log_item.specs.declared.EntryIndex.{EntryIndex}
 use Rattle.log_item.specs.Entries.{entriesOf}
-use Rattle.log_item.specs.Limits.{Each, one}
-use Rattle.log_item.specs.Limits as limits
-use Rattle.log_item.specs.Rows.{Joined, Consecutive}
-use Rattle.log_item.specs.Rows as lie
-use Rattle.log_item.specs.Spelling.{Tails, no-more, next, OneItem, item}
+use Rattle.one_reading.specs.Limits.{Each, one}
+use Rattle.one_reading.specs.Limits as limits
+use Rattle.one_reading.specs.Spelling.{Tails, no-more, next, OneItem, item}
+use Rattle.one_reading.specs.Rows.{Joined, Consecutive}
+use Rattle.one_reading.specs.Rows as lie
 
 module _ {N : ℕ → List ℕ → Type 0} where
   -- There are as many rows as tails.

@@ -13,11 +13,12 @@ use Rattle.codec.specs.Shortest.{shortest}
 use Rattle.codec.specs.Write.{placed}
 use Rattle.log_item.specs.Got.{got}
 use Rattle.log_item.specs.Entries.{entriesOf, typeOf}
-use Rattle.log_item.specs.Limits.{Each, RowFits}
-use Rattle.log_item.specs.Limits as limits
+use Rattle.one_reading.specs.Limits.{Each, RowFits}
+use Rattle.one_reading.specs.Limits as limits
+use Rattle.one_reading.specs.Spelling.{NumberIn, Spanned, spanned, Contents, no-entries, entries, clean, compact, put, delete, Tails, no-more, next, OneItem, item}
+use Rattle.one_reading.specs.Place.{At}
 use Rattle.log_item.specs.Prefix.{bytesOf}
 use Rattle.log_item.specs.Reading.{oneItem}
-use Rattle.log_item.specs.Spelling.{NumberIn, Spanned, spanned, Contents, no-entries, entries, clean, compact, put, delete, Tails, no-more, next, OneItem, item}
 use Rattle.log_item.specs.declared.Form.{Form}
 use Rattle.log_item.specs.declared.Form.the-variants.{Any, Plain}
 use Rattle.log_item.specs.declared.Span.{Span}
@@ -29,7 +30,7 @@ use Rattle.log_item.specs.declared.LogItemContent.{LogItemContent}
 use Rattle.log_item.specs.declared.LogItemContent.the-variants as contents
 use Rattle.log_item.specs.declared.LogItem.{LogItem}
 use Rattle.log_item.specs.declared.EntryIndex.{EntryIndex}
-use Rattle.one_reading.proofs.Place.{At, cut}
+use Rattle.one_reading.proofs.Place.{cut}
 use Rattle.one_reading.proofs.Forms.{form-any}
 use Rattle.one_reading.proofs.Complete.{complete-item}
 use Rattle.item_writer.specs.Bytes.{spanBytes, commandBytes, opBytes, entriesBytes, contentBytes, headBytes, tailsBytes}

@@ -22,6 +22,7 @@ use Rattle.list_writer.specs.Refusing.{Verdict, fine, refused, unless, tailsVer
 use Rattle.list_writer.specs.Answers.{measured, measuredOf, measureOf, encoded, encodedOf, laid}
 use Rattle.list_writer.proofs.Heads.{unless-fine, cond-fine}
 use Rattle.list_writer.proofs.Bodies.{accepted, body-length}
+use Rattle.one_reading.specs.Encoding.{Encodes, writes, leaves}
 
 -- ---- items
 
@@ -110,20 +111,6 @@ measures s checked xs ns = go (listVerdict s checked xs ns) refl
     go (fine t) e = at-fine t (ltb 4294967295 (n + 4))
 
 -- ---- what an answer of `encode` tells
-
--- The body stands at the place, and all else is as it was.
-pub record Written (s : List ℕ) (checked : Bool) (xs : List LogItem) (ns : List ℕ) (signature : ℕ) (out : List ℕ) (at long : ℕ) (later : List ℕ) : Type 0 where
-  pub total : ℕ
-  pub few : length xs ≤ 256
-  pub told : itemsVerdict s checked xs ns 0 0 0 ≡ fine total
-  pub whole : long ≡ length (bodyBytes s xs ns signature)
-  pub fits : at + length (bodyBytes s xs ns signature) ≤ length out
-  pub bytes : later ≡ take at out ++ bodyBytes s xs ns signature ++ drop (at + length (bodyBytes s xs ns signature)) out
-
--- One of the two: the body is written, or it is refused and nothing is touched.
-pub data Encodes (s : List ℕ) (checked : Bool) (xs : List LogItem) (ns : List ℕ) (signature : ℕ) (out : List ℕ) (at : ℕ) (r : Encoded) (later : List ℕ) : Type 0 where
-  writes : r .number ≡ 0 → 0 < r .length → Written s checked xs ns signature out at (r .length) later → Encodes s checked xs ns signature out at r later
-  leaves : 0 < r .number → r .length ≡ 0 → later ≡ out → Encodes s checked xs ns signature out at r later
 
 pub encodes : (s : List ℕ) (checked : Bool) (xs : List LogItem) (ns : List ℕ) (signature : ℕ) (out : List ℕ) (at : ℕ) {r : Encoded} {later : List ℕ}
     → r ≡ encodedOf (measureOf s checked xs ns) out at → later ≡ laid r out at (bodyBytes s xs ns signature)

@@ -11,23 +11,21 @@ use Rattle.log_item.specs.declared.Form.{Form}
 use Rattle.log_item.specs.declared.Form.the-variants.{Any}
 use Rattle.log_item.specs.declared.LogItem.{LogItem}
 use Rattle.log_item.specs.declared.EntryIndex.{EntryIndex}
-use Rattle.log_item.specs.Limits.{Each, RowFits}
-use Rattle.log_item.specs.Limits as limits
-use Rattle.log_item.specs.Rows.{Joined}
-use Rattle.log_item.specs.Rows as lie
-use Rattle.log_item.specs.Spelling.{NumberIn}
+use Rattle.one_reading.specs.Limits.{Each, RowFits, Within}
+use Rattle.one_reading.specs.Limits as limits
+use Rattle.one_reading.specs.Spelling.{NumberIn, Items, end, then, Spells, list}
+use Rattle.one_reading.specs.Acceptable.{Begins}
+use Rattle.one_reading.specs.Rows.{Joined, Indexed}
+use Rattle.one_reading.specs.Rows as lie
+use Rattle.one_reading.specs.Place.{At, Found, Asks}
 use Rattle.log_item.proofs.Holds.{Holds, holds, after, at-most}
-use Rattle.one_reading.proofs.Place.{At, Found, join, cut, nothing, at-front}
-use Rattle.one_reading.proofs.Numbers.{Asks, complete-number, sound-number, number-some, in-any}
+use Rattle.one_reading.proofs.Place.{join, cut, nothing, at-front}
+use Rattle.one_reading.proofs.Numbers.{complete-number, sound-number, number-some, in-any}
 use Rattle.one_reading.proofs.ItemRows.{each-append, each-split, item-length, item-joined, item-consecutive, joined-append}
 use Rattle.one_reading.proofs.Complete.{complete-item}
 use Rattle.one_reading.proofs.Sound.{sound-item}
 use Rattle.one_reading.proofs.Forms.{item-as}
-use Rattle.body_check.specs.Limits.{Within}
-use Rattle.body_check.specs.Spelling.{Items, end, then, Spells, list, Begins}
 use Rattle.body_check.specs.Reading.{accepted, items, count, readItems}
-use Rattle.body_check.specs.Rows.{Indexed}
-use Rattle.body_check.specs.Rows as rowed
 use Rattle.one_reading.proofs.Accepts.{Accepts, accepts, in-front, counting, weaken, one-more}
 
 module _ (form : Form) {s : List ℕ} where
@@ -118,8 +116,8 @@ module _ {N : ℕ → List ℕ → Type 0} where
 
   -- Each item's rows are as many as it states, with consecutive indexes.
   pub items-indexed : {xs : List LogItem} {rows : List EntryIndex} {t u p : ℕ} {bytes : List ℕ} → Items N xs rows t u p bytes → Indexed xs rows
-  items-indexed end = rowed.Indexed.end
-  items-indexed (then x g) = rowed.Indexed.then (item-length x) (item-consecutive x) (items-indexed g)
+  items-indexed end = lie.Indexed.end
+  items-indexed (then x g) = lie.Indexed.then (item-length x) (item-consecutive x) (items-indexed g)
 
 module _ (N M : ℕ → List ℕ → Type 0) (f : (n : ℕ) (x : List ℕ) → N n x → M n x) where
   -- Where numbers of N are numbers of M, so are items and lists.

@@ -17,16 +17,12 @@ use Rattle.codec.proofs.Theorems.{read-iff-stands, shortest-spells, none-as-sho
 use Rattle.log_item.specs.declared.Form.{Form}
 use Rattle.log_item.specs.declared.Form.the-variants.{Any, Plain}
 use Rattle.log_item.specs.Got.{got}
-use Rattle.log_item.specs.Spelling.{NumberIn}
+use Rattle.one_reading.specs.Spelling.{NumberIn}
+use Rattle.one_reading.specs.Place.{At, Found, Asks}
 use Rattle.log_item.specs.Reading.{numberGot, number}
 use Rattle.log_item.proofs.Holds.{Holds, holds, refuses, after, equal}
 use Rattle.codec.specs.Byte.{Bytes}
-use Rattle.one_reading.proofs.Place.{At, Found, bytes-at}
-
--- What a form asks of the list that is read: where the shortest spelling alone is taken, the list is of bytes.
-abbrev pub Asks : Form → List ℕ → Type 0
-Asks Any s = Unit {0}
-Asks Plain s = Bytes s
+use Rattle.one_reading.proofs.Place.{bytes-at}
 
 -- A spelling in the shortest form is a spelling.
 pub plain-any : (n : ℕ) (x : List ℕ) → NumberIn Plain n x → NumberIn Any n x

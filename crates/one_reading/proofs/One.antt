@@ -18,8 +18,7 @@ use Rattle.log_item.specs.declared.LogItemContent.the-variants as content
 use Rattle.log_item.specs.declared.LogItem.{LogItem}
 use Rattle.log_item.specs.declared.EntryIndex.{EntryIndex}
 use Rattle.log_item.specs.Entries.{typeOf}
-use Rattle.log_item.specs.Spelling.{NumberIn, Spanned, spanned, Contents, no-entries, entries, clean, compact, put, delete, Tails, no-more, next, OneItem, item}
-use Rattle.body_check.specs.Spelling.{Items, end, then, Spells, list}
+use Rattle.one_reading.specs.Spelling.{NumberIn, Spanned, spanned, Contents, no-entries, entries, clean, compact, put, delete, Tails, no-more, next, OneItem, item, Items, end, then, Spells, list}
 
 -- The same bytes without the same beginning are the same.
 rest : {x y : List ℕ} (r z : List ℕ) → x ≡ y → x ++ r ≡ y ++ z → r ≡ z

@@ -13,17 +13,7 @@ use Rattle.codec.proofs.Bytes.{bytes-front, bytes-drop}
 use Rattle.log_item.specs.Got.{got}
 use Rattle.log_item.specs.Reading.{byte}
 use Rattle.log_item.proofs.Holds.{Holds, holds, below}
-
--- In s, the bytes stand from the place p up to the place q.
-pub record At (s : List ℕ) (p q : ℕ) (bytes : List ℕ) : Type 0 where
-  pub stand : drop p s ≡ bytes ++ drop q s
-  pub ends : q ≡ p + length bytes
-
--- Some bytes with a property stand in s from p up to q.
-pub record Found (s : List ℕ) (P : List ℕ → Type 0) (p q : ℕ) : Type 0 where
-  pub bytes : List ℕ
-  pub at : At s p q bytes
-  pub has : P bytes
+use Rattle.one_reading.specs.Place.{At}
 
 -- Bytes with others behind them begin them.
 pub at-front : (x y : List ℕ) → At (x ++ y) 0 (length x) x

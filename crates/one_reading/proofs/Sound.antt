@@ -12,23 +12,18 @@ use Rattle.log_item.specs.declared.LogItemContent.the-variants as content
 use Rattle.log_item.specs.declared.LogItem.{LogItem}
 use Rattle.log_item.specs.declared.EntryIndex.{EntryIndex}
 use Rattle.log_item.specs.Entries.{entriesOf, typeOf}
-use Rattle.log_item.specs.Limits.{Each, one, RowFits}
-use Rattle.log_item.specs.Limits as limits
-use Rattle.log_item.specs.Spelling.{NumberIn, Spanned, spanned, Contents, no-entries, entries, clean, compact, put, delete, Tails, no-more, next, OneItem, item}
-use Rattle.log_item.specs.Reading.{Read, span, command, putAt, keyValue, firstIndex, entryIndexes, head, tail, tails, oneItem}
+use Rattle.one_reading.specs.Limits.{Each, one, RowFits}
+use Rattle.one_reading.specs.Limits as limits
+use Rattle.one_reading.specs.Spelling.{NumberIn, Spanned, spanned, Contents, no-entries, entries, clean, compact, put, delete, Tails, no-more, next, item}
+use Rattle.one_reading.specs.Place.{At, Found, Asks, ItemSpelled}
+use Rattle.log_item.specs.Reading.{span, command, putAt, keyValue, firstIndex, entryIndexes, head, tail, tails, oneItem}
 use Rattle.log_item.specs.Reading as reading
 use Rattle.log_item.proofs.Holds.{Holds, holds, refuses, after, at-most, is}
-use Rattle.one_reading.proofs.Place.{At, Found, join, nothing, sound-byte}
-use Rattle.one_reading.proofs.Numbers.{Asks, sound-number}
+use Rattle.one_reading.proofs.Place.{join, nothing, sound-byte}
+use Rattle.one_reading.proofs.Numbers.{sound-number}
 use Rattle.one_reading.proofs.ItemRows.{tails-length}
 
--- What is spelled where an item is read, with e entries and the total t before it: the item, its rows within the limits, and the total after it.
-pub record ItemSpelled (form : Form) (e t p : ℕ) (r : Read) (x : List ℕ) : Type 0 where
-  pub spelled : OneItem (NumberIn form) (r .item) (r .rows) t (r .total) p x
-  pub each : Each RowFits (r .rows)
-  pub few : e + length (r .rows) ≤ 1024
-
--- The same of n tails from the index i on.
+-- What is spelled where n tails are read from the index i on.
 pub record TailsSpelled (form : Form) (n i t : ℕ) (r : List EntryIndex × ℕ) (x : List ℕ) : Type 0 where
   pub tails : Tails (NumberIn form) n i (r .0) t (r .1) x
   pub each : Each RowFits (r .0)

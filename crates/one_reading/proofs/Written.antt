@@ -20,9 +20,11 @@ use Rattle.codec.specs.Byte.{Bytes}
 use Rattle.crc.proofs.Laws.{crc-lt}
 use Rattle.crc.proofs.Xor.{xor-cancel-l}
 use Rattle.log_item.specs.Entries.{entriesOf}
-use Rattle.log_item.specs.Limits.{Each, RowFits}
-use Rattle.log_item.specs.Limits as limits
-use Rattle.log_item.specs.Spelling.{NumberIn}
+use Rattle.one_reading.specs.Limits.{Each, RowFits, Within}
+use Rattle.one_reading.specs.Limits as limits
+use Rattle.one_reading.specs.Spelling.{NumberIn, Items, end, then, Spells, list}
+use Rattle.one_reading.specs.Place.{At}
+use Rattle.one_reading.specs.Encoding.{Encodes, writes, leaves}
 use Rattle.log_item.specs.declared.Form.the-variants.{Any, Plain}
 use Rattle.log_item.specs.declared.LogItemContent.{LogItemContent}
 use Rattle.log_item.specs.declared.LogItemContent.the-variants as contents
@@ -30,7 +32,7 @@ use Rattle.log_item.specs.declared.LogItem.{LogItem}
 use Rattle.log_item.specs.declared.EntryIndex.{EntryIndex}
 use Rattle.log_item.proofs.Holds.{of-got}
 use Rattle.one_reading.proofs.Numbers.{in-any}
-use Rattle.one_reading.proofs.Place.{At, cut, at-front}
+use Rattle.one_reading.proofs.Place.{cut, at-front}
 use Rattle.one_reading.proofs.ItemRows.{each-append, item-length}
 use Rattle.one_reading.proofs.Sound.{sound-item}
 use Rattle.item_writer.specs.Refusing.{contentRefusal}
@@ -44,10 +46,8 @@ use Rattle.log_item.specs.Blank.{blankItem}
 use Rattle.list_writer.specs.Bytes.{firstRows, itemsOf, itemsBytes, listBytes, footed, bodyBytes}
 use Rattle.list_writer.specs.Refusing.{fine, itemsVerdict, listVerdict}
 use Rattle.list_writer.proofs.Heads.{cond-fine}
-use Rattle.one_reading.proofs.ListWritten.{items-split, items-fine, Encodes, writes, leaves, encodes}
+use Rattle.one_reading.proofs.ListWritten.{items-split, items-fine, encodes}
 use Rattle.item_batch.specs.declared.LogItemBatch.{LogItemBatch}
-use Rattle.body_check.specs.Limits.{Within}
-use Rattle.body_check.specs.Spelling.{Items, end, then, Spells, list}
 use Rattle.body_check.specs.Reading.{accepted, rejected}
 use Rattle.seal.specs.Seal.{sealCheck}
 use Rattle.body_check.specs.Body.{readBody}

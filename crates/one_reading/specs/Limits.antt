@@ -1,8 +1,10 @@
--- The ceilings of an entry row: an index at most 2^64 - 1, a tail at most 4,294,967,295.
+-- The ceilings of a list: 256 items, 1,024 entries, and of each entry an index at most 2^64 - 1 and a tail at most 4,294,967,295.
 -- Assumes nothing.
 use Prim.Native.Nat.{_+_, _≤_}
 use mathlib.Core.List.{List, [], _∷_}
+use lib.ListN.{length}
+use Rattle.log_item.specs.declared.LogItem.{LogItem}
 use Rattle.log_item.specs.declared.EntryIndex.{EntryIndex}
 
 -- the tail of a row is where its entry ends
 pub record RowFits (r : EntryIndex) : Type 0 where
@@ -13,3 +15,9 @@ pub record RowFits (r : EntryIndex) : Type 0 where
 pub data Each (P : EntryIndex → Type 0) : List EntryIndex → Type 0 where
   none : Each P []
   one : {r : EntryIndex} {rows : List EntryIndex} → P r → Each P rows → Each P (r ∷ rows)
+
+-- The ceilings of a batch.
+pub record Within (xs : List LogItem) (rows : List EntryIndex) : Type 0 where
+  pub items : length xs ≤ 256
+  pub entries : length rows ≤ 1024
+  pub each : Each RowFits rows

@@ -1,26 +1,27 @@
--- Which bytes spell which item, over any relation of numbers to their spellings: relations, piece by piece, with no reading procedure.
+-- Which bytes spell which item and which list of items, over any relation of numbers to their spellings: relations, piece by piece, with no
+-- reading procedure.
 -- A place counts from the start of the body.
 -- Assumes nothing.
 use Prim.Native.Nat.{ℕ, suc, _+_, _-_, _≤_, _<_, _^_}
 use mathlib.Core.Path.{_≡_}
 use mathlib.Core.List.{List, [], _∷_, _++_}
 use lib.ListN.{length}
-use Rattle.codec.specs.Spelling.{Spells}
+use Rattle.codec.specs.Spelling as numbers
 use Rattle.codec.specs.Shortest.{shortest}
 use Rattle.log_item.specs.Entries.{entriesOf, typeOf}
 use Rattle.log_item.specs.declared.Form.{Form}
 use Rattle.log_item.specs.declared.Form.the-variants.{Any, Plain}
 use Rattle.log_item.specs.declared.Span.{Span}
 use Rattle.log_item.specs.declared.Command.the-variants as command
 use Rattle.log_item.specs.declared.Op.the-variants as op
 use Rattle.log_item.specs.declared.LogItemContent.{LogItemContent}
 use Rattle.log_item.specs.declared.LogItemContent.the-variants as content
 use Rattle.log_item.specs.declared.LogItem.{LogItem}
 use Rattle.log_item.specs.declared.EntryIndex.{EntryIndex}
 
 -- A number in any permitted spelling, or in its shortest alone.
 abbrev pub NumberIn : Form → ℕ → List ℕ → Type 0
-NumberIn Any n bs = Spells n bs
+NumberIn Any n bs = numbers.Spells n bs
 NumberIn Plain n bs = (n < 2 ^ 64) × (bs ≡ shortest n)
 
 module _ (Number : ℕ → List ℕ → Type 0) where
@@ -51,3 +52,14 @@ module _ (Number : ℕ → List ℕ → Type 0) where
     item : {g : ℕ} {c : LogItemContent} {rows : List EntryIndex} {t u p : ℕ} {group bytes tails : List ℕ} → Number g group
         → Contents c (p + length group + 1) bytes → Tails (entriesOf c .count) (entriesOf c .«first_index») rows t u tails
         → OneItem (record { «raft_group_id» = g; content = c }) rows t u p (group ++ (typeOf c ∷ (bytes ++ tails)))
+
+  -- Items from the place p on, each where the one before ended, with all their rows. The total runs on: t before them, u after them.
+  pub data Items : List LogItem → List EntryIndex → ℕ → ℕ → ℕ → List ℕ → Type 0 where
+    end : {t p : ℕ} → Items [] [] t t p []
+    then : {x : LogItem} {xs : List LogItem} {rows more : List EntryIndex} {t v u p : ℕ} {bytes later : List ℕ} → OneItem x rows t v p bytes
+        → Items xs more v u (p + length bytes) later → Items (x ∷ xs) (rows ++ more) t u p (bytes ++ later)
+
+  -- Item count, items: the total runs from 0.
+  pub data Spells : List LogItem → List EntryIndex → ℕ → List ℕ → Type 0 where
+    list : {xs : List LogItem} {rows : List EntryIndex} {total : ℕ} {count bytes : List ℕ} → Number (length xs) count
+        → Items xs rows 0 total (length count) bytes → Spells xs rows total (count ++ bytes)

@@ -1,0 +1,7 @@
+pub mod Limits
+pub mod Spelling
+pub mod Acceptable
+pub mod Plain
+pub mod Rows
+pub mod Place
+pub mod Encoding
