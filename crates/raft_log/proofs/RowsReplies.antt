@@ -10,8 +10,8 @@ use Rattle.body_check.specs.declared.BodyCheck.the-variants.{Accepted, Refused}
 use Rattle.body_check.specs.Reading.{Answer}
 use Rattle.rows_reader.specs.Lent.{RowsRead}
 use Rattle.batch_rows.specs.declared.BatchCheck.{BatchCheck}
-use Rattle.log_batch.specs.Batch.{sealedBatch}
-use Rattle.batch_rows.specs.Rows.{bodyPlace, blockPlace, placeIf, BatchRead}
+use Rattle.log_batch.specs.Batch.{sealedBatch, bodyPlace, blockPlace}
+use Rattle.batch_rows.specs.Rows.{placeIf, BatchRead}
 use Rattle.raft_log.specs.Reply.{Reply, reply}
 use Rattle.raft_log.specs.Answers.{checkReply}
 use Rattle.raft_log.specs.RowsRead.{RowsReplied, batchReply, BatchReplied}

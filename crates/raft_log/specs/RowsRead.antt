@@ -10,8 +10,7 @@ use Rattle.body_check.specs.declared.BodyCheck.the-variants.{Accepted, Refused}
 use Rattle.body_check.specs.Reading.{Answer}
 use Rattle.body_check.specs.Answers.{checkOf}
 use Rattle.rows_reader.specs.Lent.{fitting, itemsAfter, entriesAfter}
-use Rattle.log_batch.specs.Batch.{sealedBatch}
-use Rattle.batch_rows.specs.Rows.{batchAnswer, bodyPlace, blockPlace}
+use Rattle.log_batch.specs.Batch.{sealedBatch, batchAnswer, bodyPlace, blockPlace}
 use Rattle.raft_log.specs.Reply.{Reply, reply}
 use Rattle.raft_log.specs.Answers.{checkReply}
 
