@@ -26,8 +26,8 @@ pub read-rows : OneAnswer 3 read-rows-kinds.ps read-rows-kinds.r read-rows-reads
 read-rows κs a x y s t p q =
     let e : x .check ≡ y .check = p .rows .answer ∙ sym (q .rows .answer) in (
       same-check e (p .body ∙ (rw e (sym (q .body)))) (p .block ∙ (rw e (sym (q .block)))),
-      p .rows .item-rows ∙ sym (q .rows .item-rows),
-      p .rows .entry-rows ∙ sym (q .rows .entry-rows),
+      p .rows .rows .item-rows ∙ sym (q .rows .rows .item-rows),
+      p .rows .rows .entry-rows ∙ sym (q .rows .rows .entry-rows),
     )
 
 pub write-rows : OneAnswer 5 write-rows-kinds.ps write-rows-kinds.r write-rows-reads.Post

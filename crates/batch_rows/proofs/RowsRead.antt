@@ -17,8 +17,8 @@ use Rattle.rows_reader.specs.Lent.{RowsRead}
 use Rattle.rows_reader.proofs.Reading.{left, same-answer}
 use Rattle.log_batch.specs.declared.LogBatch.{LogBatch}
 use Rattle.batch_rows.specs.declared.BatchCheck.{BatchCheck}
-use Rattle.log_batch.specs.Batch.{sealedBatch}
-use Rattle.batch_rows.specs.Rows.{batchAnswer, bodyPlace, blockPlace, placeIf, BatchRead}
+use Rattle.log_batch.specs.Batch.{sealedBatch, batchAnswer, bodyPlace, blockPlace}
+use Rattle.batch_rows.specs.Rows.{placeIf, BatchRead}
 use Rattle.log_batch.proofs.Frames.{batch-part}
 
 abbrev pub checkAt : BodyCheck → Span → Span → BatchCheck

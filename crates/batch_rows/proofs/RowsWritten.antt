@@ -10,12 +10,11 @@ use lib.ListN.{length}
 use borrow.Author.Tests.{eqb-true, eqb-false}
 use Rattle.list_writer.specs.declared.Measured.{Measured}
 use Rattle.list_writer.specs.declared.Encoded.{Encoded}
-use Rattle.list_writer.specs.Bytes.{bodyBytes}
 use Rattle.list_writer.specs.Answers.{measureOf, encodedOf, laid}
-use Rattle.rows_writer.specs.Rows.{rowCount, rowItems, entryLengths, measureRows}
+use Rattle.rows_writer.specs.Rows.{rowCount, rowItems, entryLengths, measureRows, rowsBytes}
 use Rattle.rows_writer.proofs.RowsMeasuring.{rows-accepted}
 use Rattle.log_batch.specs.Written.{framed, batchEncoded, FrontWritten}
-use Rattle.batch_rows.specs.Rows.{RowsWritten}
+use Rattle.batch_rows.specs.Rows.{rowsEncoded, RowsWritten}
 use Rattle.log_batch.proofs.Planning.{body-small, planned}
 use Rattle.log_batch.proofs.Framing.{begun-told, begun-left, body-behind, batch-stored}
 
@@ -32,12 +31,12 @@ module _ (s : List ℕ) (checked : Bool) (items entries : List ℕ) {m : Measure
     told : r ≡ batchEncoded m (rowCount items) content (length out)
     told = begun-told begun rows-small
 
-    answers : r ≡ batchEncoded (measureRows s checked items entries) (rowCount items) content (length out)
+    answers : r ≡ rowsEncoded checked items entries s content out
     answers = told ∙ ap (λ (x : Measured). batchEncoded x (rowCount items) content (length out)) same
 
     pub rows-left : (signature : ℕ) → r .length ≡ 0 → RowsWritten checked items entries s content signature out r mid
     rows-left signature h =
-        record { answer = answers; written = begun-left begun (framed content (bodyBytes s (rowItems items) (entryLengths entries) signature)) h }
+        record { answer = answers; written = begun-left begun (framed content (rowsBytes s items entries signature)) h }
 
     module _ (h : r .length ≡ 0 → ⊥) where
       -- what a length that is not 0 tells
@@ -49,7 +48,7 @@ module _ (s : List ℕ) (checked : Bool) (items entries : List ℕ) {m : Measure
 
       pub rows-stored : (signature : ℕ) {later : List ℕ} {x : Encoded}
           → (x ≡ encodedOf (measureRows s checked items entries) mid (r .length - m .length))
-          × (later ≡ laid x mid (r .length - m .length) (bodyBytes s (rowItems items) (entryLengths entries) signature))
+          × (later ≡ laid x mid (r .length - m .length) (rowsBytes s items entries signature))
           → RowsWritten checked items entries s content signature out r later
       rows-stored signature p =
           let e : measureRows s checked items entries ≡ measureOf s checked (rowItems items) (entryLengths entries) = sym same ∙ each .1 in

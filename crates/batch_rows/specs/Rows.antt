@@ -1,44 +1,22 @@
 -- What reading a whole batch into lent rows, and writing one from them, answers, and what is lent holds afterwards.
 -- Assumes nothing.
-use Prim.Native.Nat.{ℕ, _-_}
+use Prim.Native.Nat.{ℕ}
 use mathlib.Core.Path.{_≡_}
 use mathlib.Core.Bool.{Bool}
 use mathlib.Core.List.{List}
 use lib.ListN.{length}
-use Rattle.log_item.specs.Got.{Got, got, refused}
-use Rattle.log_item.specs.declared.Form.the-variants.{Any}
 use Rattle.log_item.specs.declared.Span.{Span}
 use Rattle.body_check.specs.declared.BodyCheck.{BodyCheck}
 use Rattle.body_check.specs.declared.BodyCheck.the-variants.{Accepted, Refused}
-use Rattle.body_check.specs.declared.Wanted.the-variants.{Exactly}
-use Rattle.body_check.specs.Reading.{Answer, rejected, readItems}
-use Rattle.seal.specs.Seal.{sealedPart, contentLength}
-use Rattle.body_check.specs.Total.{agreeing}
 use Rattle.list_writer.specs.declared.Encoded.{Encoded}
-use Rattle.list_writer.specs.Bytes.{bodyBytes}
 use Rattle.list_writer.specs.Answers.{laid}
-use Rattle.rows_writer.specs.Rows.{rowCount, rowItems, entryLengths, measureRows}
+use Rattle.rows_writer.specs.Rows.{rowCount, measureRows, rowsBytes}
 use Rattle.rows_reader.specs.Lent.{RowsRead}
-use Rattle.log_batch.specs.declared.LogBatch.{LogBatch}
 use Rattle.batch_rows.specs.declared.BatchCheck.{BatchCheck}
-use Rattle.log_batch.specs.Batch.{blockOf, bodyOf, sealedBatch}
+use Rattle.log_batch.specs.Batch.{sealedBatch, batchAnswer, bodyPlace, blockPlace}
 use Rattle.log_batch.specs.Written.{framed, batchEncoded}
 
--- what a batch comes to: its items, where their entries come to the block's content, else 20
-abbrev pub batchAnswer : List ℕ → Got LogBatch → Answer
-batchAnswer s (got h q) = agreeing (Exactly (contentLength (blockOf h s))) (readItems Any (sealedPart (bodyOf h s)))
-batchAnswer s (refused r) = rejected r 0
-
--- where its body and its block stand
-abbrev pub bodyPlace : Got LogBatch → Span
-bodyPlace (got h q) = record { at = h .offset; len = h .len - h .offset }
-bodyPlace (refused r) = record { at = 0; len = 0 }
-
-abbrev pub blockPlace : Got LogBatch → Span
-blockPlace (got h q) = record { at = 16; len = h .offset - 16 }
-blockPlace (refused r) = record { at = 0; len = 0 }
-
--- stated where the batch is accepted
+-- a place, stated where the batch is accepted
 abbrev pub placeIf : BodyCheck → Span → Span
 placeIf (Accepted items entries total next) k = k
 placeIf (Refused r) k = record { at = 0; len = 0 }
@@ -51,8 +29,11 @@ pub record BatchRead (s : List ℕ) (signature : ℕ) (items entries : List ℕ)
 
 -- ---- writing
 
--- the answer r to the items of rows with the lengths of their entries, and the later contents of out: the batch, then what stood there; out as
--- it was where nothing is written
+-- what is answered to the items of rows with the lengths of their entries
+abbrev pub rowsEncoded : Bool → List ℕ → List ℕ → List ℕ → List ℕ → List ℕ → Encoded
+rowsEncoded checked items entries store content out = batchEncoded (measureRows store checked items entries) (rowCount items) content (length out)
+
+-- the answer r, and the later contents of out: the batch, then what stood there; out as it was where nothing is written
 pub record RowsWritten (checked : Bool) (items entries store content : List ℕ) (signature : ℕ) (out : List ℕ) (r : Encoded) (later : List ℕ) : Type 0 where
-  pub answer : r ≡ batchEncoded (measureRows store checked items entries) (rowCount items) content (length out)
-  pub written : later ≡ laid r out 0 (framed content (bodyBytes store (rowItems items) (entryLengths entries) signature))
+  pub answer : r ≡ rowsEncoded checked items entries store content out
+  pub written : later ≡ laid r out 0 (framed content (rowsBytes store items entries signature))

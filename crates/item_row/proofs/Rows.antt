@@ -11,50 +11,50 @@ use Rattle.item_row.specs.declared.RowRead.{RowRead}
 use Rattle.item_row.specs.declared.RowRead.the-variants.{Refused}
 use Rattle.item_row.specs.Row.{itemOf, spanOf, commandRow, keyRow, rowItem}
 
-module _ (group which a : ℕ) where
-  pub command-clean : which ≡ 1 → itemOf group (contents.Command Clean) ≡ commandRow group which a
+module _ (group kind a : ℕ) where
+  pub command-clean : kind ≡ 1 → itemOf group (contents.Command Clean) ≡ commandRow group kind a
   unfolding commandRow
   command-clean e = rw e
 
-  module _ (one : which ≡ 1 → ⊥) where
-    pub command-compact : which ≡ 2 → itemOf group (contents.Command (Compact a)) ≡ commandRow group which a
+  module _ (one : kind ≡ 1 → ⊥) where
+    pub command-compact : kind ≡ 2 → itemOf group (contents.Command (Compact a)) ≡ commandRow group kind a
     unfolding commandRow
     command-compact e = rw e
 
-    pub command-unknown : (which ≡ 2 → ⊥) → Refused 11 ≡ commandRow group which a
+    pub command-unknown : (kind ≡ 2 → ⊥) → Refused 11 ≡ commandRow group kind a
     unfolding commandRow
     command-unknown e = rw (ne-eqb _ _ one, ne-eqb _ _ e)
 
-module _ (group which : ℕ) (key value : Span) where
-  pub key-put : which ≡ 1 → itemOf group (contents.Kv (record { key = key; op = Put value })) ≡ keyRow group which key value
+module _ (group kind : ℕ) (key value : Span) where
+  pub key-put : kind ≡ 1 → itemOf group (contents.Kv (record { key = key; op = Put value })) ≡ keyRow group kind key value
   unfolding keyRow
   key-put e = rw e
 
-  module _ (one : which ≡ 1 → ⊥) where
-    pub key-delete : which ≡ 2 → itemOf group (contents.Kv (record { key = key; op = Del })) ≡ keyRow group which key value
+  module _ (one : kind ≡ 1 → ⊥) where
+    pub key-delete : kind ≡ 2 → itemOf group (contents.Kv (record { key = key; op = Del })) ≡ keyRow group kind key value
     unfolding keyRow
     key-delete e = rw e
 
-    pub key-unknown : (which ≡ 2 → ⊥) → Refused 12 ≡ keyRow group which key value
+    pub key-unknown : (kind ≡ 2 → ⊥) → Refused 12 ≡ keyRow group kind key value
     unfolding keyRow
     key-unknown e = rw (ne-eqb _ _ one, ne-eqb _ _ e)
 
-module _ (group kind which a b c d : ℕ) where
-  pub row-entries : kind ≡ 1 → itemOf group (contents.EntryIndexes (record { count = a; «first_index» = b })) ≡ rowItem group kind which a b c d
+module _ (group item-type kind a b c d : ℕ) where
+  pub row-entries : item-type ≡ 1 → itemOf group (contents.EntryIndexes (record { count = a; «first_index» = b })) ≡ rowItem group item-type kind a b c d
   unfolding rowItem
   row-entries e = rw e
 
-  module _ (one : kind ≡ 1 → ⊥) where
-    pub row-command : {r : RowRead} → kind ≡ 2 → r ≡ commandRow group which a → r ≡ rowItem group kind which a b c d
+  module _ (one : item-type ≡ 1 → ⊥) where
+    pub row-command : {r : RowRead} → item-type ≡ 2 → r ≡ commandRow group kind a → r ≡ rowItem group item-type kind a b c d
     unfolding rowItem
     row-command e f = rw e f
 
-    module _ (two : kind ≡ 2 → ⊥) where
-      pub row-key : {r : RowRead} {key value : Span} → kind ≡ 3 → key ≡ spanOf a b → value ≡ spanOf c d → r ≡ keyRow group which key value
-          → r ≡ rowItem group kind which a b c d
+    module _ (two : item-type ≡ 2 → ⊥) where
+      pub row-key : {r : RowRead} {key value : Span} → item-type ≡ 3 → key ≡ spanOf a b → value ≡ spanOf c d → r ≡ keyRow group kind key value
+          → r ≡ rowItem group item-type kind a b c d
       unfolding rowItem
       row-key e g h f = rw (e, ← g, ← h) f
 
-      pub row-unknown : (kind ≡ 3 → ⊥) → Refused 10 ≡ rowItem group kind which a b c d
+      pub row-unknown : (item-type ≡ 3 → ⊥) → Refused 10 ≡ rowItem group item-type kind a b c d
       unfolding rowItem
       row-unknown e = rw (ne-eqb _ _ one, ne-eqb _ _ two, ne-eqb _ _ e)

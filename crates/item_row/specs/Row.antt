@@ -28,24 +28,24 @@ spanOf at len = record { at = at; len = len }
 
 -- 1 clean, or 2 compact and an index
 unfoldable pub commandRow : ℕ → ℕ → ℕ → RowRead
-commandRow group which a =
-    cond (eqb which 1) (itemOf group (contents.Command Clean))
-    (cond (eqb which 2) (itemOf group (contents.Command (Compact a)))
+commandRow group kind a =
+    cond (eqb kind 1) (itemOf group (contents.Command Clean))
+    (cond (eqb kind 2) (itemOf group (contents.Command (Compact a)))
     (Refused 11))
 
 -- 1 put (key, content) or 2 delete (key)
 unfoldable pub keyRow : ℕ → ℕ → Span → Span → RowRead
-keyRow group which key value =
-    cond (eqb which 1) (itemOf group (contents.Kv (record { key = key; op = Put value })))
-    (cond (eqb which 2) (itemOf group (contents.Kv (record { key = key; op = Del })))
+keyRow group kind key value =
+    cond (eqb kind 1) (itemOf group (contents.Kv (record { key = key; op = Put value })))
+    (cond (eqb kind 2) (itemOf group (contents.Kv (record { key = key; op = Del })))
     (Refused 12))
 
 -- the item of seven words; those that it has no use for do not matter
 unfoldable pub rowItem : ℕ → ℕ → ℕ → ℕ → ℕ → ℕ → ℕ → RowRead
-rowItem group kind which a b c d =
-    cond (eqb kind 1) (itemOf group (contents.EntryIndexes (record { count = a; «first_index» = b })))
-    (cond (eqb kind 2) (commandRow group which a)
-    (cond (eqb kind 3) (keyRow group which (spanOf a b) (spanOf c d))
+rowItem group item-type kind a b c d =
+    cond (eqb item-type 1) (itemOf group (contents.EntryIndexes (record { count = a; «first_index» = b })))
+    (cond (eqb item-type 2) (commandRow group kind a)
+    (cond (eqb item-type 3) (keyRow group kind (spanOf a b) (spanOf c d))
     (Refused 10)))
 
 -- the item of row i

@@ -16,10 +16,10 @@ pub enum RowRead {
 }
 
 // The item of seven words; those that it has no use for are not looked at.
-pub fn item_of(group: u64, kind: u64, which: u64, a: u64, b: u64, c: u64, d: u64) -> RowRead
-    ensures { λ r. ⌜ r ≡ rowItem group kind which a b c d ⌝ }
+pub fn item_of(group: u64, item_type: u64, kind: u64, a: u64, b: u64, c: u64, d: u64) -> RowRead
+    ensures { λ r. ⌜ r ≡ rowItem group «item_type» kind a b c d ⌝ }
 {
-    if kind == 1 {
+    if item_type == 1 {
         return RowRead::Item(LogItem {
             raft_group_id: group,
             content: LogItemContent::EntryIndexes(EntryIndexes {
@@ -28,26 +28,26 @@ pub fn item_of(group: u64, kind: u64, which: u64, a: u64, b: u64, c: u64, d: u64
             }),
         });
     }
-    if kind == 2 {
-        return command_of(group, which, a);
+    if item_type == 2 {
+        return command_of(group, kind, a);
     }
-    if kind == 3 {
-        return key_of(group, which, span(a, b), span(c, d));
+    if item_type == 3 {
+        return key_of(group, kind, span(a, b), span(c, d));
     }
     RowRead::Refused(refusal::ITEM_TYPE_UNKNOWN)
 }
 
 // 1 clean, 2 compact.
-fn command_of(group: u64, which: u64, index: u64) -> RowRead
-    ensures { λ r. ⌜ r ≡ commandRow group which index ⌝ }
+fn command_of(group: u64, kind: u64, index: u64) -> RowRead
+    ensures { λ r. ⌜ r ≡ commandRow group kind index ⌝ }
 {
-    if which == 1 {
+    if kind == 1 {
         return RowRead::Item(LogItem {
             raft_group_id: group,
             content: LogItemContent::Command(Command::Clean),
         });
     }
-    if which == 2 {
+    if kind == 2 {
         return RowRead::Item(LogItem {
             raft_group_id: group,
             content: LogItemContent::Command(Command::Compact { index }),
@@ -57,10 +57,10 @@ fn command_of(group: u64, which: u64, index: u64) -> RowRead
 }
 
 // 1 put, 2 delete.
-fn key_of(group: u64, which: u64, key: Span, value: Span) -> RowRead
-    ensures { λ r. ⌜ r ≡ keyRow group which key value ⌝ }
+fn key_of(group: u64, kind: u64, key: Span, value: Span) -> RowRead
+    ensures { λ r. ⌜ r ≡ keyRow group kind key value ⌝ }
 {
-    if which == 1 {
+    if kind == 1 {
         return RowRead::Item(LogItem {
             raft_group_id: group,
             content: LogItemContent::Kv(KeyValue {
@@ -69,7 +69,7 @@ fn key_of(group: u64, which: u64, key: Span, value: Span) -> RowRead
             }),
         });
     }
-    if which == 2 {
+    if kind == 2 {
         return RowRead::Item(LogItem {
             raft_group_id: group,
             content: LogItemContent::Kv(KeyValue { key, op: Op::Del }),

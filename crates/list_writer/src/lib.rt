@@ -30,7 +30,7 @@ pub struct Encoded {
     pub length: usize,
 }
 
-// The first refusal of a body but 21, or its length.
+// The first refusal of a body but 21, or its length and entry total.
 pub fn measure(
     items: [LogItem; 256],
     item_count: usize,

@@ -12,7 +12,7 @@ use Rattle.location_rules.specs.declared.Stop.{Stop}
 use Rattle.location_rules.specs.declared.Fetched.{Fetched}
 use Rattle.memtable.specs.Rows.{runOf}
 use Rattle.memtable.specs.Table.{wellFormed}
-use Rattle.location_rules.specs.Decisions.{fetched}
+use Rattle.location_rules.specs.Decisions.{noRun, fetched}
 use Rattle.memtable.specs.Fetching.{fetchOf}
 use Rattle.memtable.proofs.Queues.{both}
 use Rattle.memtable.proofs.Surveys.{fetched-by}
@@ -43,7 +43,7 @@ module _ (words : List ℕ) (t : Table) (gate : ℕ) {b : Bool} (e : b ≡ forme
     unfolding fetchWords rowsOf
     is-limited = rw (parts .0, located-length words) refl
 
-    pub fetch-many : 64 < rowCount words → record { number = 21; place = 0; len = 0 } ≡ fetchWords words t gate
+    pub fetch-many : 64 < rowCount words → noRun 21 ≡ fetchWords words t gate
     unfolding limitedFetch
     fetch-many l = sym (is-limited ∙ (rw (fetched-is (located words) t gate (parts .1), lt-leb (rowCount words) 64 l) refl))
 

@@ -9,7 +9,8 @@ use borrow.Author.Tests.{le-leb, lt-leb, eqb-false, eq-eqb, ne-eqb}
 use Rattle.location_rules.specs.declared.Table.{Table}
 use Rattle.location_rules.specs.declared.Rewritten.{Rewritten}
 use Rattle.location_rules.specs.Decisions.{unchanged}
-use Rattle.location_rows.specs.Answers.{inReach, limited}
+use Rattle.location_rules.specs.Parts.{inReach}
+use Rattle.location_rows.specs.Answers.{limited}
 
 module _ (n m : ℕ) (t : Table) (r : Rewritten) where
   pub limit-refused : (r .number ≡ 0 → ⊥) → r ≡ limited n m t r

@@ -17,13 +17,13 @@ use Rattle.memtable.specs.Rows.{runOf}
 use Rattle.memtable.specs.Table.{wellFormed, ready}
 use Rattle.location_rules.specs.Decisions.{stopOf, unchanged, answered}
 use Rattle.memtable.specs.Rewriting.{rewriteOf, rowsAfter}
-use Rattle.location_rules.specs.Parts.{readyBy, overlapOf}
+use Rattle.location_rules.specs.Parts.{inReach, readyBy, overlapOf}
 use Rattle.location_rules.proofs.Overlaps.{over-le, over-rows}
 use Rattle.memtable.proofs.Surveys.{ready-by}
 use Rattle.memtable.proofs.Rewrites.{run-fits, rewritten-by}
 use Rattle.memtable.proofs.Theorems.{refused-kept}
 use Rattle.location_rows.specs.Words.{areRows, rowCount, rows, broken, rowsOf, rowsWords}
-use Rattle.location_rows.specs.Answers.{inReach, limited, RowsRewritten}
+use Rattle.location_rows.specs.Answers.{limited, RowsRewritten}
 use Rattle.location_rows.specs.Private.{located, formedWords, readyWords}
 use Rattle.location_rows.proofs.Rows.{room, pasted}
 use Rattle.location_rows.proofs.Surveys.{located-length, unformed, unready}

@@ -2,7 +2,7 @@
 -- Assumes nothing.
 use mathlib.Core.Path.{_≡_}
 use Prim.Native.Nat.{ℕ, _*_}
-use mathlib.Core.Bool.{Bool, not, cond, _&&_}
+use mathlib.Core.Bool.{false, not, cond, _&&_}
 use mathlib.Core.List.{List, _++_}
 use lib.Dec.{leb, eqb}
 use lib.ListN.{length, drop}
@@ -11,7 +11,8 @@ use Rattle.location_rules.specs.declared.Gate.{Gate}
 use Rattle.location_rules.specs.declared.Rewritten.{Rewritten}
 use Rattle.location_rules.specs.declared.Fetched.{Fetched}
 use Rattle.memtable.specs.Table.{wellFormed}
-use Rattle.location_rules.specs.Decisions.{unchanged}
+use Rattle.location_rules.specs.Parts.{inReach}
+use Rattle.location_rules.specs.Decisions.{unchanged, noRun, fetched}
 use Rattle.memtable.specs.Rewriting.{rewriteOf, rowsAfter}
 use Rattle.memtable.specs.Fetching.{fetchOf}
 use Rattle.location_rows.specs.Words.{Rows, rows, broken, rowsOf, rowsWords}
@@ -19,16 +20,12 @@ use Rattle.location_rows.specs.Words.{Rows, rows, broken, rowsOf, rowsWo
 abbrev pub tableOf : ℕ → ℕ → Table
 tableOf first count = record { first = first; count = count }
 
--- neither has more than 64 rows
-abbrev pub inReach : ℕ → ℕ → Bool
-inReach n m = leb n 64 && leb m 64
-
 -- an answer that refuses nothing is a 21 where there are more than 64 rows: it comes after every other check
 unfoldable pub limited : ℕ → ℕ → Table → Rewritten → Rewritten
 limited n m t r = cond (eqb (r .number) 0 && not (inReach n m)) (unchanged 21 t) r
 
 unfoldable pub limitedFetch : ℕ → Fetched → Fetched
-limitedFetch n f = cond (eqb (f .number) 0 && not (leb n 64)) (record { number = 21; place = 0; len = 0 }) f
+limitedFetch n f = cond (eqb (f .number) 0 && not (leb n 64)) (noRun 21) f
 
 -- a row of the table that is no location's is a 26, an incoming one a 27
 abbrev pub rewriteRows : Rows → Table → Rows → ℕ → Gate → Rewritten
@@ -48,7 +45,7 @@ abbrev pub Kept : List ℕ → Table → Rewritten → List ℕ → Type 0
 Kept words t r later = (r .replaced ≡ 0) × ((r .count ≡ t .count) × (later ≡ words))
 
 abbrev pub fetchRows : Rows → Table → ℕ → Fetched
-fetchRows broken t gate = record { number = 26; place = 0; len = 0 }
+fetchRows broken t gate = fetched false t 0
 fetchRows (rows xs) t gate = limitedFetch (length xs) (fetchOf xs t gate)
 
 -- the answer r to a rewrite of the words of a table, and their later contents

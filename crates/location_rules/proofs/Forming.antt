@@ -8,7 +8,7 @@ use lib.Dec.{leb}
 use borrow.Author.Tests.{le-leb, lt-leb, leb-true, leb-false}
 use Rattle.location_rules.specs.declared.Table.{Table}
 use Rattle.location_rules.specs.Parts.{indexesFit, wellFormedBy, readyBy}
-use Rattle.location_rules.specs.Decisions.{fetched}
+use Rattle.location_rules.specs.Decisions.{noRun, fetched}
 
 -- two tests that hold together
 same-test : (a b c d : ℕ) → (a ≤ b → c ≤ d) → (b < a → d < c) → leb a b ≡ leb c d
@@ -63,7 +63,7 @@ module _ (last n first : ℕ) where
   is-ready l e = rw (le-leb n last l) e
 
 module _ (good : Bool) (t : Table) (start end : ℕ) where
-  pub fetched-broken : good ≡ false → record { number = 26; place = 0; len = 0 } ≡ fetched good t (end - start)
+  pub fetched-broken : good ≡ false → noRun 26 ≡ fetched good t (end - start)
   unfolding fetched
   fetched-broken e = rw e refl
 

@@ -37,6 +37,10 @@ answered isFormed isReady t place overlap run gate =
     (cond (early gate place (t .count)) (unchanged 25 t)
     (record { number = 0; replaced = run; count = countAfter gate (place + run) (t .count) })))))
 
+-- a fetch that is refused
+abbrev pub noRun : ℕ → Fetched
+noRun number = record { number = number; place = 0; len = 0 }
+
 -- place and length of the run, an empty one too; or 26
 unfoldable pub fetched : Bool → Table → ℕ → Fetched
-fetched isFormed t run = cond isFormed (record { number = 0; place = t .count; len = run }) (record { number = 26; place = 0; len = 0 })
+fetched isFormed t run = cond isFormed (record { number = 0; place = t .count; len = run }) (noRun 26)

@@ -10,6 +10,10 @@ use Rattle.location_rules.specs.declared.Overlap.{Overlap}
 abbrev pub indexesFit : ℕ → ℕ → Bool
 indexesFit first n = leb (first + n) 18446744073709551616
 
+-- neither has more than 64 rows
+abbrev pub inReach : ℕ → ℕ → Bool
+inReach n m = leb n 64 && leb m 64
+
 -- a table of n rows, of which the first in the wrong queue stand at front, before the count, and at back, after it
 unfoldable pub wellFormedBy : Table → ℕ → ℕ → ℕ → Bool
 wellFormedBy t n front back = leb (t .count) n && (leb (t .count) front && (leb n back && indexesFit (t .first) n))

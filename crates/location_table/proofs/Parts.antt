@@ -16,10 +16,11 @@ use Rattle.location_rules.specs.declared.Table.{Table}
 use Rattle.location_rules.specs.declared.Gate.{Gate}
 use Rattle.location_rules.specs.declared.Rewritten.{Rewritten}
 use Rattle.location_rules.specs.declared.Fetched.{Fetched}
-use Rattle.location_rules.specs.Decisions.{unchanged}
+use Rattle.location_rules.specs.Parts.{inReach}
+use Rattle.location_rules.specs.Decisions.{unchanged, noRun}
 use Rattle.memtable.specs.Rewriting.{rewriteOf, rowsAfter}
 use Rattle.memtable.specs.Fetching.{fetchOf}
-use Rattle.location_table.specs.Values.{inReach, rowsUsed, answerOf, fetchedOf, rewriteValue, rowsValue, fetchValue}
+use Rattle.location_table.specs.Values.{rowsUsed, answerOf, fetchedOf, rewriteValue, rowsValue, fetchValue}
 
 -- the three ways to use rows
 module _ (len other : ℕ) where
@@ -57,7 +58,7 @@ module _ (len other : ℕ) where
   unfolding answerOf
   answer-whole t r l m = rw (reached l m) refl
 
-pub fetched-many : (len : ℕ) (r : Fetched) → 64 < len → record { number = 21; place = 0; len = 0 } ≡ fetchedOf len r
+pub fetched-many : (len : ℕ) (r : Fetched) → 64 < len → noRun 21 ≡ fetchedOf len r
 unfolding fetchedOf
 fetched-many len r l = rw (lt-leb len 64 l) refl
 

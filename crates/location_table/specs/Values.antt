@@ -1,7 +1,7 @@
 -- Tables of at most 64 locations by value: memtable's definitions, of the rows that are used.
 -- Assumes nothing.
 use Prim.Native.Nat.{ℕ}
-use mathlib.Core.Bool.{Bool, cond, _&&_}
+use mathlib.Core.Bool.{cond}
 use mathlib.Core.List.{List, _++_}
 use lib.Dec.{leb}
 use lib.ListN.{take, drop}
@@ -10,13 +10,10 @@ use Rattle.location_rules.specs.declared.Table.{Table}
 use Rattle.location_rules.specs.declared.Gate.{Gate}
 use Rattle.location_rules.specs.declared.Rewritten.{Rewritten}
 use Rattle.location_rules.specs.declared.Fetched.{Fetched}
-use Rattle.location_rules.specs.Decisions.{unchanged}
+use Rattle.location_rules.specs.Parts.{inReach}
+use Rattle.location_rules.specs.Decisions.{unchanged, noRun}
 use Rattle.memtable.specs.Rewriting.{rewriteOf, rowsAfter}
 use Rattle.memtable.specs.Fetching.{fetchOf}
-
--- neither has more than 64 rows
-abbrev pub inReach : ℕ → ℕ → Bool
-inReach len count = leb len 64 && leb count 64
 
 unfoldable pub rowsUsed : ℕ → ℕ → ℕ
 rowsUsed len count = cond (inReach len count) len 0
@@ -26,7 +23,7 @@ unfoldable pub answerOf : ℕ → ℕ → Table → Rewritten → Rewritten
 answerOf len count t r = cond (inReach len count) r (unchanged 21 t)
 
 unfoldable pub fetchedOf : ℕ → Fetched → Fetched
-fetchedOf len r = cond (leb len 64) r (record { number = 21; place = 0; len = 0 })
+fetchedOf len r = cond (leb len 64) r (noRun 21)
 
 unfoldable pub rewriteValue : List Location → ℕ → Table → List Location → ℕ → ℕ → Gate → Rewritten
 rewriteValue rows len t incoming count first gate = answerOf len count t (rewriteOf (take len rows) t (take count incoming) first gate)

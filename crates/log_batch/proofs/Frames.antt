@@ -206,7 +206,7 @@ module _ (s : List ℕ) (signature : ℕ) where
 -- ---- the table
 
 pub table-refused : (s : List ℕ) (signature : ℕ) {r : ℕ} {t : LogItemBatch} → frontBatch s 0 ≡ refused r → t ≡ emptyTable r 0 → t ≡ readBatch s signature
-unfolding readBatch
+unfolding readBatch tableOf
 table-refused s signature e f = rw (sym (batch-refused s signature e)) f
 
 -- Where the front is right, the table is that of the body's reading, whose entry total is held to the block.

@@ -6,12 +6,13 @@ use lib.Dec.{leb, eqb}
 use lib.ListN.{length, take, drop}
 use Rattle.log_item.specs.Got.{Got, got, refused, Reading, done, bind, _>>=_, _>>_, Test, _else_}
 use Rattle.log_item.specs.declared.Form.the-variants.{Any}
+use Rattle.log_item.specs.declared.Span.{Span}
 use Rattle.item_batch.specs.declared.LogItemBatch.{LogItemBatch}
 use Rattle.body_check.specs.declared.Wanted.the-variants.{Exactly}
-use Rattle.body_check.specs.Reading.{readItems}
+use Rattle.body_check.specs.Reading.{Answer, rejected, readItems}
 use Rattle.seal.specs.Seal.{sealedPart, sealCheck, blockCheck, contentLength}
 use Rattle.body_check.specs.Total.{agreeing}
-use Rattle.item_batch.specs.Table.{emptyTable, tableOf}
+use Rattle.item_batch.specs.Table.{tableOf}
 use Rattle.log_batch.specs.declared.LogBatch.{LogBatch}
 use Rattle.log_batch.specs.Header.{header}
 
@@ -42,12 +43,23 @@ sealedBatch s signature = do
   passes (sealCheck (bodyOf h s) signature)
   done h
 
--- the table of a batch: its items, where their entries come to the block's content, else 20, with the places of body and block
+-- what a batch comes to: its items, where their entries come to the block's content, else 20
+abbrev pub batchAnswer : List ℕ → Got LogBatch → Answer
+batchAnswer s (got h q) = agreeing (Exactly (contentLength (blockOf h s))) (readItems Any (sealedPart (bodyOf h s)))
+batchAnswer s (refused r) = rejected r 0
+
+-- where its body and its block stand
+abbrev pub bodyPlace : Got LogBatch → Span
+bodyPlace (got h q) = record { at = h .offset; len = h .len - h .offset }
+bodyPlace (refused r) = record { at = 0; len = 0 }
+
+abbrev pub blockPlace : Got LogBatch → Span
+blockPlace (got h q) = record { at = 16; len = h .offset - 16 }
+blockPlace (refused r) = record { at = 0; len = 0 }
+
+-- its table
 abbrev pub batchTable : List ℕ → Got LogBatch → LogItemBatch
-batchTable s (got h q) =
-    tableOf (record { at = h .offset; len = h .len - h .offset }) (record { at = 16; len = h .offset - 16 })
-    (agreeing (Exactly (contentLength (blockOf h s))) (readItems Any (sealedPart (bodyOf h s))))
-batchTable s (refused r) = emptyTable r 0
+batchTable s g = tableOf (bodyPlace g) (blockPlace g) (batchAnswer s g)
 
 unfoldable pub readBatch : List ℕ → ℕ → LogItemBatch
 readBatch s signature = batchTable s (sealedBatch s signature 0)

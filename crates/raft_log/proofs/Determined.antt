@@ -79,19 +79,19 @@ pub read-body : OneAnswer 4 read-body-kinds.ps read-body-kinds.r read-body-reads
     (λ κs x y s t. (x ≡ y) × (now (s .1 .1 .1 .1 .0) ≡ now (t .1 .1 .1 .1 .0)) × (now (s .1 .1 .0) ≡ now (t .1 .1 .0)) × (now (s .1 .1 .1 .0) ≡ now (t .1 .1 .1 .0)))
 read-body κs a x y s t p q =
     let e = same (p .answer) (q .answer) in
-    (e .0, e .1, p .item-rows ∙ sym (q .item-rows), p .entry-rows ∙ sym (q .entry-rows))
+    (e .0, e .1, p .rows .item-rows ∙ sym (q .rows .item-rows), p .rows .entry-rows ∙ sym (q .rows .entry-rows))
 
 pub read-items : OneAnswer 4 read-items-kinds.ps read-items-kinds.r read-items-reads.Post
     (λ κs x y s t. (x ≡ y) × (now (s .1 .1 .1 .0) ≡ now (t .1 .1 .1 .0)) × (now (s .1 .0) ≡ now (t .1 .0)) × (now (s .1 .1 .0) ≡ now (t .1 .1 .0)))
 read-items κs a x y s t p q =
     let e = same (p .answer) (q .answer) in
-    (e .0, e .1, p .item-rows ∙ sym (q .item-rows), p .entry-rows ∙ sym (q .entry-rows))
+    (e .0, e .1, p .rows .item-rows ∙ sym (q .rows .item-rows), p .rows .entry-rows ∙ sym (q .rows .entry-rows))
 
 pub read-batch : OneAnswer 4 read-batch-kinds.ps read-batch-kinds.r read-batch-reads.Post
     (λ κs x y s t. (x ≡ y) × (now (s .1 .1 .1 .1 .0) ≡ now (t .1 .1 .1 .1 .0)) × (now (s .1 .1 .0) ≡ now (t .1 .1 .0)) × (now (s .1 .1 .1 .0) ≡ now (t .1 .1 .1 .0)))
 read-batch κs a x y s t p q =
     let e = same (p .answer) (q .answer) in
-    (e .0, e .1, p .item-rows ∙ sym (q .item-rows), p .entry-rows ∙ sym (q .entry-rows))
+    (e .0, e .1, p .rows .item-rows ∙ sym (q .rows .item-rows), p .rows .entry-rows ∙ sym (q .rows .entry-rows))
 
 pub write-body : OneAnswer 5 write-body-kinds.ps write-body-kinds.r write-body-reads.Post
     (λ κs x y s t. (x ≡ y) × (now (s .1 .1 .1 .1 .1 .0) ≡ now (t .1 .1 .1 .1 .1 .0)) × (now (s .1 .1 .1 .1 .0) ≡ now (t .1 .1 .1 .1 .0)))

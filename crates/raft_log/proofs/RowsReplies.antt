@@ -10,15 +10,15 @@ use Rattle.body_check.specs.declared.BodyCheck.the-variants.{Accepted, Refused}
 use Rattle.body_check.specs.Reading.{Answer}
 use Rattle.rows_reader.specs.Lent.{RowsRead}
 use Rattle.batch_rows.specs.declared.BatchCheck.{BatchCheck}
-use Rattle.log_batch.specs.Batch.{sealedBatch}
-use Rattle.batch_rows.specs.Rows.{bodyPlace, blockPlace, placeIf, BatchRead}
+use Rattle.log_batch.specs.Batch.{sealedBatch, bodyPlace, blockPlace}
+use Rattle.batch_rows.specs.Rows.{placeIf, BatchRead}
 use Rattle.raft_log.specs.Reply.{Reply, reply}
 use Rattle.raft_log.specs.Answers.{checkReply}
-use Rattle.raft_log.specs.RowsRead.{RowsReplied, batchReply, BatchReplied}
+use Rattle.raft_log.specs.RowsRead.{BodyRowsRead, batchReply, BatchRowsRead}
 
 pub rows-replied : {a : Answer} {items entries later more : List ℕ} {c : BodyCheck} {r : Reply} → RowsRead a items entries c later more → r ≡ checkReply c
-    → RowsReplied a items entries r later more
-rows-replied w e = record { answer = e ∙ ap checkReply (w .answer); item-rows = w .item-rows; entry-rows = w .entry-rows }
+    → BodyRowsRead a items entries r later more
+rows-replied w e = record { answer = e ∙ ap checkReply (w .answer); rows = w .rows }
 
 -- ---- a batch
 
@@ -36,12 +36,11 @@ places (Accepted m n u q) body block = refl
 places (Refused r) body block = refl
 
 pub batch-replied : {s : List ℕ} {signature : ℕ} {items entries later more : List ℕ} {b : BatchCheck} {r : Reply}
-    → BatchRead s signature items entries b later more → r ≡ batchReply (b .check) (b .body) (b .block) → BatchReplied s signature items entries r later more
+    → BatchRead s signature items entries b later more → r ≡ batchReply (b .check) (b .body) (b .block) → BatchRowsRead s signature items entries r later more
 batch-replied {s} {signature} {b = b} w e =
     let g = sealedBatch s signature 0 in
     record {
       answer =
           e ∙ (rw (w .body, w .block) (places (b .check) (bodyPlace g) (blockPlace g))) ∙ ap (λ (c : BodyCheck). batchReply c (bodyPlace g) (blockPlace g)) (w .rows .answer);
-      item-rows = w .rows .item-rows;
-      entry-rows = w .rows .entry-rows;
+      rows = w .rows .rows;
     }

@@ -5,27 +5,26 @@ use mathlib.Core.Path.{_≡_, ap, _∙_}
 use mathlib.Core.Bool.{Bool}
 use mathlib.Core.List.{List}
 use Rattle.list_writer.specs.declared.Encoded.{Encoded}
-use Rattle.list_writer.specs.Bytes.{bodyBytes}
 use Rattle.list_writer.specs.Answers.{laid}
-use Rattle.rows_writer.specs.Rows.{rowItems, entryLengths}
+use Rattle.rows_writer.specs.Rows.{rowsBytes}
 use Rattle.log_batch.specs.Written.{framed}
 use Rattle.batch_rows.specs.Rows.{RowsWritten}
 use Rattle.raft_log.specs.Reply.{Reply}
-use Rattle.raft_log.specs.RowsWritten.{writtenReply, bodyEncoded, BodyReplied, BatchReplied}
+use Rattle.raft_log.specs.RowsWritten.{writtenReply, bodyEncoded, BodyRowsWritten, BatchRowsWritten}
 
 module _ {checked : Bool} {items entries store : List ℕ} {signature : ℕ} {out later : List ℕ} {e : Encoded} {r : Reply} where
-  pub body-replied : (e ≡ bodyEncoded checked items entries store out) × (later ≡ laid e out 0 (bodyBytes store (rowItems items) (entryLengths entries) signature))
-      → r ≡ writtenReply e → BodyReplied checked items entries store signature out r later
+  pub body-replied : (e ≡ bodyEncoded checked items entries store out) × (later ≡ laid e out 0 (rowsBytes store items entries signature))
+      → r ≡ writtenReply e → BodyRowsWritten checked items entries store signature out r later
   body-replied p f =
       record {
         answer = f ∙ ap writtenReply (p .0);
-        written = p .1 ∙ ap (λ (x : Encoded). laid x out 0 (bodyBytes store (rowItems items) (entryLengths entries) signature)) (p .0);
+        written = p .1 ∙ ap (λ (x : Encoded). laid x out 0 (rowsBytes store items entries signature)) (p .0);
       }
 
   pub batch-replied : {content : List ℕ} → RowsWritten checked items entries store content signature out e later → r ≡ writtenReply e
-      → BatchReplied checked items entries store content signature out r later
+      → BatchRowsWritten checked items entries store content signature out r later
   batch-replied {content} w f =
       record {
         answer = f ∙ ap writtenReply (w .answer);
-        written = w .written ∙ ap (λ (x : Encoded). laid x out 0 (framed content (bodyBytes store (rowItems items) (entryLengths entries) signature))) (w .answer);
+        written = w .written ∙ ap (λ (x : Encoded). laid x out 0 (framed content (rowsBytes store items entries signature))) (w .answer);
       }

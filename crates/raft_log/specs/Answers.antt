@@ -5,8 +5,6 @@ use mathlib.Core.Bool.{cond}
 use mathlib.Core.List.{List, [], _∷_}
 use lib.Dec.{eqb}
 use lib.ListN.{getD}
-use Rattle.codec.specs.declared.NumberRead.{NumberRead}
-use Rattle.codec.specs.declared.NumberRead.the-variants as number
 use Rattle.codec.specs.declared.Wrote.{Wrote}
 use Rattle.codec.specs.declared.Wrote.the-variants as wrote
 use Rattle.log_item.specs.Got.{Got, got, refused}
@@ -26,10 +24,9 @@ use Rattle.entry_view.specs.View.{entryCheck}
 use Rattle.raft_log.specs.Reply.{Reply, reply}
 
 -- the number, the place after it
-abbrev pub numberReply : NumberRead → Reply
-numberReply (number.Done n next) = reply 0 (n ∷ next ∷ [])
-numberReply number.Eof = reply 7 (0 ∷ 0 ∷ [])
-numberReply number.Overflow = reply 7 (0 ∷ 0 ∷ [])
+abbrev pub numberReply : Got ℕ → Reply
+numberReply (got n next) = reply 0 (n ∷ next ∷ [])
+numberReply (refused r) = reply r (0 ∷ 0 ∷ [])
 
 -- the place after what was written
 abbrev pub wroteReply : Wrote → Reply
@@ -68,14 +65,14 @@ viewOf row append rewrite =
     viewReply (queueCheck (getD row 0 0) (getD row 3 0) (getD row 4 0) (getD row 5 0) append rewrite) (getD row 4 0) (getD row 5 0)
 
 -- 1 begin, 2 middle, 3 end
-abbrev pub markOf : AtomicGroupStatus → ℕ
-markOf Begin = 1
-markOf Middle = 2
-markOf End = 3
+abbrev pub markWord : AtomicGroupStatus → ℕ
+markWord Begin = 1
+markWord Middle = 2
+markWord End = 3
 
 -- the mark and its group; 0 and 0 where there is none
 abbrev pub statusReply : StatusRead → Reply
-statusReply (status.Mark group mark) = reply 0 (markOf mark ∷ group ∷ [])
+statusReply (status.Mark group mark) = reply 0 (markWord mark ∷ group ∷ [])
 statusReply status.NoMark = reply 0 (0 ∷ 0 ∷ [])
 statusReply (status.Refused r) = reply (r .number) (0 ∷ 0 ∷ [])
 

@@ -9,17 +9,15 @@ use Rattle.body_check.specs.declared.BodyCheck.{BodyCheck}
 use Rattle.body_check.specs.declared.BodyCheck.the-variants.{Accepted, Refused}
 use Rattle.body_check.specs.Reading.{Answer}
 use Rattle.body_check.specs.Answers.{checkOf}
-use Rattle.rows_reader.specs.Lent.{fitting, itemsAfter, entriesAfter}
-use Rattle.log_batch.specs.Batch.{sealedBatch}
-use Rattle.batch_rows.specs.Rows.{batchAnswer, bodyPlace, blockPlace}
+use Rattle.rows_reader.specs.Lent.{fitting, Filled}
+use Rattle.log_batch.specs.Batch.{sealedBatch, batchAnswer, bodyPlace, blockPlace}
 use Rattle.raft_log.specs.Reply.{Reply, reply}
 use Rattle.raft_log.specs.Answers.{checkReply}
 
--- the reply r to a reading that comes to a, and the later contents of the rows that are lent
-pub record RowsReplied (a : Answer) (items entries : List ℕ) (r : Reply) (later more : List ℕ) : Type 0 where
+-- the reply r to a reading that comes to a, and the rows that are lent
+pub record BodyRowsRead (a : Answer) (items entries : List ℕ) (r : Reply) (later more : List ℕ) : Type 0 where
   pub answer : r ≡ checkReply (checkOf (fitting (length items) (length entries) a))
-  pub item-rows : later ≡ itemsAfter (fitting (length items) (length entries) a) items
-  pub entry-rows : more ≡ entriesAfter (fitting (length items) (length entries) a) entries
+  pub rows : Filled (fitting (length items) (length entries) a) items entries later more
 
 -- as for a body, and place and length of the body and of the block
 abbrev pub batchReply : BodyCheck → Span → Span → Reply
@@ -31,7 +29,6 @@ abbrev pub batchFitting : List ℕ → ℕ → List ℕ → List ℕ → Answer
 batchFitting s signature items entries = fitting (length items) (length entries) (batchAnswer s (sealedBatch s signature 0))
 
 -- the reply r to the reading of a batch
-pub record BatchReplied (s : List ℕ) (signature : ℕ) (items entries : List ℕ) (r : Reply) (later more : List ℕ) : Type 0 where
+pub record BatchRowsRead (s : List ℕ) (signature : ℕ) (items entries : List ℕ) (r : Reply) (later more : List ℕ) : Type 0 where
   pub answer : r ≡ batchReply (checkOf (batchFitting s signature items entries)) (bodyPlace (sealedBatch s signature 0)) (blockPlace (sealedBatch s signature 0))
-  pub item-rows : later ≡ itemsAfter (batchFitting s signature items entries) items
-  pub entry-rows : more ≡ entriesAfter (batchFitting s signature items entries) entries
+  pub rows : Filled (batchFitting s signature items entries) items entries later more

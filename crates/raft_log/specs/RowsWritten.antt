@@ -4,12 +4,11 @@ use Prim.Native.Nat.{ℕ}
 use mathlib.Core.Path.{_≡_}
 use mathlib.Core.Bool.{Bool}
 use mathlib.Core.List.{List, [], _∷_}
-use lib.ListN.{length}
 use Rattle.list_writer.specs.declared.Encoded.{Encoded}
-use Rattle.list_writer.specs.Bytes.{bodyBytes}
 use Rattle.list_writer.specs.Answers.{encodedOf, laid}
-use Rattle.rows_writer.specs.Rows.{rowCount, rowItems, entryLengths, measureRows}
-use Rattle.log_batch.specs.Written.{framed, batchEncoded}
+use Rattle.rows_writer.specs.Rows.{measureRows, rowsBytes}
+use Rattle.log_batch.specs.Written.{framed}
+use Rattle.batch_rows.specs.Rows.{rowsEncoded}
 use Rattle.raft_log.specs.Reply.{Reply, reply}
 
 -- item of a refusal, length
@@ -20,14 +19,11 @@ abbrev pub bodyEncoded : Bool → List ℕ → List ℕ → List ℕ → List �
 bodyEncoded checked items entries store out = encodedOf (measureRows store checked items entries) out 0
 
 -- the reply r, and the later contents of out: the body, then what stood there; out as it was where it is refused
-pub record BodyReplied (checked : Bool) (items entries store : List ℕ) (signature : ℕ) (out : List ℕ) (r : Reply) (later : List ℕ) : Type 0 where
+pub record BodyRowsWritten (checked : Bool) (items entries store : List ℕ) (signature : ℕ) (out : List ℕ) (r : Reply) (later : List ℕ) : Type 0 where
   pub answer : r ≡ writtenReply (bodyEncoded checked items entries store out)
-  pub written : later ≡ laid (bodyEncoded checked items entries store out) out 0 (bodyBytes store (rowItems items) (entryLengths entries) signature)
-
-abbrev pub rowsEncoded : Bool → List ℕ → List ℕ → List ℕ → List ℕ → List ℕ → Encoded
-rowsEncoded checked items entries store content out = batchEncoded (measureRows store checked items entries) (rowCount items) content (length out)
+  pub written : later ≡ laid (bodyEncoded checked items entries store out) out 0 (rowsBytes store items entries signature)
 
 -- the same for a batch; out as it was where nothing is written
-pub record BatchReplied (checked : Bool) (items entries store content : List ℕ) (signature : ℕ) (out : List ℕ) (r : Reply) (later : List ℕ) : Type 0 where
+pub record BatchRowsWritten (checked : Bool) (items entries store content : List ℕ) (signature : ℕ) (out : List ℕ) (r : Reply) (later : List ℕ) : Type 0 where
   pub answer : r ≡ writtenReply (rowsEncoded checked items entries store content out)
-  pub written : later ≡ laid (rowsEncoded checked items entries store content out) out 0 (framed content (bodyBytes store (rowItems items) (entryLengths entries) signature))
+  pub written : later ≡ laid (rowsEncoded checked items entries store content out) out 0 (framed content (rowsBytes store items entries signature))

@@ -20,13 +20,14 @@ ghost use Rattle.codec.specs.Number.{readNumber};
 ghost use Rattle.codec.specs.Shortest.{shortest};
 ghost use Rattle.codec.specs.Write.{wroteAt, placed};
 ghost use Rattle.log_item.specs.declared.Form.the-variants.{Any};
+ghost use Rattle.log_item.specs.Reading.{numberGot};
 ghost use Rattle.item_row.specs.Row.{rowAt};
 ghost use Rattle.body_check.specs.Reading.{readItems};
 ghost use Rattle.body_check.specs.Body.{readBody};
 ghost use Rattle.body_check.specs.Answers.{checkOf, plainBody};
 ghost use Rattle.log_batch.specs.Header.{header};
 ghost use Rattle.raft_log.specs.Reply.{reply};
-ghost use Rattle.raft_log.specs.Answers.{numberReply, wroteReply, headerReply, checkReply, plainReply, queueCheck, viewOf, markOf, statusReply, rowStatus};
+ghost use Rattle.raft_log.specs.Answers.{numberReply, wroteReply, headerReply, checkReply, plainReply, queueCheck, viewOf, markWord, statusReply, rowStatus};
 use atomic_status::AtomicGroupStatus;
 use atomic_status::StatusRead;
 use body_check::BodyCheck;
@@ -48,7 +49,7 @@ pub extern "C" fn raft_log_crc32(data: &[u8]) -> u32
 // The number at a place, and the place after it.
 #[no_mangle]
 pub extern "C" fn raft_log_read_number(data: &[u8], at: usize, answer: &mut [u64; 2]) -> u32
-    ensures { λ r. ⌜ reply r (now (answer .exit)) ≡ numberReply (readNumber (now («data» .entry)) at) ⌝ }
+    ensures { λ r. ⌜ reply r (now (answer .exit)) ≡ numberReply (numberGot (readNumber (now («data» .entry)) at)) ⌝ }
 {
     match codec::decode_var_u64(data, at) {
         NumberRead::Done { value, next } => {
@@ -236,7 +237,7 @@ fn put_status(status: StatusRead, answer: &mut [u64; 2]) -> u32
 }
 
 fn mark_of(status: AtomicGroupStatus) -> u64
-    ensures { λ r. ⌜ r ≡ markOf status ⌝ }
+    ensures { λ r. ⌜ r ≡ markWord status ⌝ }
 {
     match status {
         AtomicGroupStatus::Begin => 1,

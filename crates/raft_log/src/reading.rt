@@ -4,7 +4,7 @@ ghost use Rattle.log_item.specs.declared.Form.the-variants.{Any};
 ghost use Rattle.body_check.specs.Reading.{readItems};
 ghost use Rattle.body_check.specs.Body.{readBody};
 ghost use Rattle.raft_log.specs.Reply.{reply};
-ghost use Rattle.raft_log.specs.RowsRead.{RowsReplied, batchReply, BatchReplied};
+ghost use Rattle.raft_log.specs.RowsRead.{BodyRowsRead, batchReply, BatchRowsRead};
 use crate::put_check;
 use batch_rows::BatchCheck;
 use body_check::BodyCheck;
@@ -19,7 +19,7 @@ pub extern "C" fn raft_log_read_body(
     entries: &mut [u64],
     answer: &mut [u64; 5],
 ) -> u32
-    ensures { λ r. ⌜ RowsReplied (readBody (now (body .entry)) signature) (now (items .entry)) (now (entries .entry)) (reply r (now (answer .exit))) (now (items .exit)) (now (entries .exit)) ⌝ }
+    ensures { λ r. ⌜ BodyRowsRead (readBody (now (body .entry)) signature) (now (items .entry)) (now (entries .entry)) (reply r (now (answer .exit))) (now (items .exit)) (now (entries .exit)) ⌝ }
 {
     let r = rows_reader::read_body(body, signature, items, entries);
     put_check(r, answer)
@@ -33,7 +33,7 @@ pub extern "C" fn raft_log_read_items(
     entries: &mut [u64],
     answer: &mut [u64; 5],
 ) -> u32
-    ensures { λ r. ⌜ RowsReplied (readItems Any (now (body .entry))) (now (items .entry)) (now (entries .entry)) (reply r (now (answer .exit))) (now (items .exit)) (now (entries .exit)) ⌝ }
+    ensures { λ r. ⌜ BodyRowsRead (readItems Any (now (body .entry))) (now (items .entry)) (now (entries .entry)) (reply r (now (answer .exit))) (now (items .exit)) (now (entries .exit)) ⌝ }
 {
     let r = rows_reader::read_items(body, Wanted::Free, items, entries);
     put_check(r, answer)
@@ -48,7 +48,7 @@ pub extern "C" fn raft_log_read_batch(
     entries: &mut [u64],
     answer: &mut [u64; 9],
 ) -> u32
-    ensures { λ r. ⌜ BatchReplied (now («data» .entry)) signature (now (items .entry)) (now (entries .entry)) (reply r (now (answer .exit))) (now (items .exit)) (now (entries .exit)) ⌝ }
+    ensures { λ r. ⌜ BatchRowsRead (now («data» .entry)) signature (now (items .entry)) (now (entries .entry)) (reply r (now (answer .exit))) (now (items .exit)) (now (entries .exit)) ⌝ }
 {
     let r = batch_rows::read_rows(data, signature, items, entries);
     put_batch(r, answer)

@@ -2,7 +2,7 @@
 ghost use mathlib.Core.Path.{_≡_};
 ghost use mathlib.Core.Bool.{true, false};
 ghost use Rattle.raft_log.specs.Reply.{reply};
-ghost use Rattle.raft_log.specs.RowsWritten.{writtenReply, BodyReplied, BatchReplied};
+ghost use Rattle.raft_log.specs.RowsWritten.{writtenReply, BodyRowsWritten, BatchRowsWritten};
 use list_writer::Encoded;
 
 // Writes a body.
@@ -15,7 +15,7 @@ pub extern "C" fn raft_log_write_body(
     out: &mut [u8],
     answer: &mut [u64; 2],
 ) -> u32
-    ensures { λ r. ⌜ BodyReplied true (now (items .entry)) (now (entries .entry)) (now (store .entry)) signature (now (out .entry)) (reply r (now (answer .exit))) (now (out .exit)) ⌝ }
+    ensures { λ r. ⌜ BodyRowsWritten true (now (items .entry)) (now (entries .entry)) (now (store .entry)) signature (now (out .entry)) (reply r (now (answer .exit))) (now (out .exit)) ⌝ }
 {
     let r = rows_writer::encode_rows(items, entries, store, signature, true, out, 0);
     put_written(r, answer)
@@ -31,7 +31,7 @@ pub extern "C" fn raft_log_write_body_unchecked(
     out: &mut [u8],
     answer: &mut [u64; 2],
 ) -> u32
-    ensures { λ r. ⌜ BodyReplied false (now (items .entry)) (now (entries .entry)) (now (store .entry)) signature (now (out .entry)) (reply r (now (answer .exit))) (now (out .exit)) ⌝ }
+    ensures { λ r. ⌜ BodyRowsWritten false (now (items .entry)) (now (entries .entry)) (now (store .entry)) signature (now (out .entry)) (reply r (now (answer .exit))) (now (out .exit)) ⌝ }
 {
     let r = rows_writer::encode_rows(items, entries, store, signature, false, out, 0);
     put_written(r, answer)
@@ -48,7 +48,7 @@ pub extern "C" fn raft_log_write_batch(
     out: &mut [u8],
     answer: &mut [u64; 2],
 ) -> u32
-    ensures { λ r. ⌜ BatchReplied true (now (items .entry)) (now (entries .entry)) (now (store .entry)) (now (content .entry)) signature (now (out .entry)) (reply r (now (answer .exit))) (now (out .exit)) ⌝ }
+    ensures { λ r. ⌜ BatchRowsWritten true (now (items .entry)) (now (entries .entry)) (now (store .entry)) (now (content .entry)) signature (now (out .entry)) (reply r (now (answer .exit))) (now (out .exit)) ⌝ }
 {
     let r = batch_rows::write_rows(items, entries, store, content, signature, true, out);
     put_written(r, answer)
@@ -65,7 +65,7 @@ pub extern "C" fn raft_log_write_batch_unchecked(
     out: &mut [u8],
     answer: &mut [u64; 2],
 ) -> u32
-    ensures { λ r. ⌜ BatchReplied false (now (items .entry)) (now (entries .entry)) (now (store .entry)) (now (content .entry)) signature (now (out .entry)) (reply r (now (answer .exit))) (now (out .exit)) ⌝ }
+    ensures { λ r. ⌜ BatchRowsWritten false (now (items .entry)) (now (entries .entry)) (now (store .entry)) (now (content .entry)) signature (now (out .entry)) (reply r (now (answer .exit))) (now (out .exit)) ⌝ }
 {
     let r = batch_rows::write_rows(items, entries, store, content, signature, false, out);
     put_written(r, answer)

@@ -18,15 +18,15 @@ use Rattle.body_check.specs.declared.Wanted.the-variants.{Free, Exactly}
 use Rattle.body_check.specs.Reading.{Answer, accepted, rejected, readItems}
 use Rattle.body_check.specs.Answers.{checkOf}
 use Rattle.body_check.specs.Total.{agreeing}
-use Rattle.rows_reader.specs.Lent.{RowsRead}
-use Rattle.rows_reader.specs.Private.{Fits, Filled}
+use Rattle.rows_reader.specs.Lent.{Filled, RowsRead}
+use Rattle.rows_reader.specs.Private.{Fits}
 
 -- ---- a refusal
 
 -- A refused reading leaves the rows as they were.
 pub left : {a : Answer} {r : BodyCheck} (items entries : List ℕ) {n i : ℕ} → a ≡ rejected n i → r ≡ Refused (record { number = n; item = i })
     → RowsRead a items entries r items entries
-left items entries e f = record { answer = rw e f; item-rows = rw e; entry-rows = rw e }
+left items entries e f = record { answer = rw e f; rows = record { item-rows = rw e; entry-rows = rw e } }
 
 -- What comes to the same is read in the same way.
 pub same-answer : {a b : Answer} {items entries later more : List ℕ} {r : BodyCheck} → b ≡ a → RowsRead a items entries r later more
@@ -94,7 +94,7 @@ module _ {a b : Answer} {m n u q : ℕ} (g : Agreed a b m n u q) (items entries 
   short-items h f =
       let k : length items / 7 < length (g .xs) = omega (arith, g .many) in
       let e = g .agrees in
-      record { answer = rw (e, lt-leb _ _ k) f; item-rows = rw (e, lt-leb _ _ k); entry-rows = rw (e, lt-leb _ _ k) }
+      record { answer = rw (e, lt-leb _ _ k) f; rows = record { item-rows = rw (e, lt-leb _ _ k); entry-rows = rw (e, lt-leb _ _ k) } }
 
   pub short-entries : {r : BodyCheck} → length entries / 3 < n → r ≡ Refused (record { number = 21; item = 0 }) → RowsRead b items entries r items entries
   short-entries h f =
@@ -102,8 +102,7 @@ module _ {a b : Answer} {m n u q : ℕ} (g : Agreed a b m n u q) (items entries 
       let e = g .agrees in
       record {
         answer = rw (e, lt-leb _ _ k, neither) f;
-        item-rows = rw (e, lt-leb _ _ k, neither);
-        entry-rows = rw (e, lt-leb _ _ k, neither);
+        rows = record { item-rows = rw (e, lt-leb _ _ k, neither); entry-rows = rw (e, lt-leb _ _ k, neither) };
       }
 
   module _ (room : m ≤ length items / 7) (more : n ≤ length entries / 3) where
@@ -119,9 +118,9 @@ module _ {a b : Answer} {m n u q : ℕ} (g : Agreed a b m n u q) (items entries 
           entry-room = omega (arith, g .used);
         }
 
-    pub read : {s later others : List ℕ} → a ≡ readItems Any s → Filled s items entries later others
+    pub read : {c : Answer} {later others : List ℕ} → a ≡ c → Filled c items entries later others
         → RowsRead b items entries (Accepted m n u q) later others
-    read {s} e f =
+    read e f =
         let k : length (g .xs) ≤ length items / 7 = omega (arith, g .many) in
         let l : length (g .rows) ≤ length entries / 3 = omega (arith, g .used) in
         let h = rw e at (g .reads) in
@@ -130,6 +129,5 @@ module _ {a b : Answer} {m n u q : ℕ} (g : Agreed a b m n u q) (items entries 
         let j = f .entry-rows in
         record {
           answer = rw (x, le-leb _ _ k, le-leb _ _ l, g .many, g .used);
-          item-rows = rw (x, le-leb _ _ k, le-leb _ _ l) (rw h at i);
-          entry-rows = rw (x, le-leb _ _ k, le-leb _ _ l) (rw h at j);
+          rows = record { item-rows = rw (x, le-leb _ _ k, le-leb _ _ l) (rw h at i); entry-rows = rw (x, le-leb _ _ k, le-leb _ _ l) (rw h at j) };
         }

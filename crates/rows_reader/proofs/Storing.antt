@@ -34,7 +34,8 @@ use Rattle.item_batch.proofs.Rows.{rows-take, rows-length}
 use Rattle.item_batch.proofs.Coming.{prepend, rowOf, rest}
 use Rattle.item_batch.proofs.Filling.{Filling, count-broken, count-large, begun, next-row, row-refused, ended, next-item, item-refused}
 use Rattle.rows_reader.specs.Lent.{itemsAfter, entriesAfter}
-use Rattle.rows_reader.specs.Private.{Words, Fits, Filled}
+use Rattle.rows_reader.specs.Lent.{Filled}
+use Rattle.rows_reader.specs.Private.{Words, Fits}
 
 -- What `Filling` says of a table, whose i items and j rows so far are the words in what is lent.
 pub record Storing (s items₀ entries₀ : List ℕ) (k : ℕ) (items entries : List ℕ) (i j p t n index : ℕ) : Type 0 where
@@ -130,7 +131,7 @@ module _ {s items₀ entries₀ : List ℕ} (f : Fits s items₀ entries₀) whe
             }
 
     module _ (done : n ≤ 0) where
-      pub stored-all : k ≤ i → Filled s items₀ entries₀ items entries
+      pub stored-all : k ≤ i → Filled (readItems Any s) items₀ entries₀ items entries
       stored-all h =
           let e = ended (w .filling) done h in
           let g = f .reads in

@@ -26,8 +26,12 @@ abbrev pub entriesAfter : Answer → List ℕ → List ℕ
 entriesAfter (accepted xs rows u q) entries = entriesWords rows ++ drop (length (entriesWords rows)) entries
 entriesAfter (rejected r i) entries = entries
 
--- the answer r to a reading that comes to a, and the later contents of the rows that are lent
+-- the later contents of the rows that are lent
+pub record Filled (a : Answer) (items entries later more : List ℕ) : Type 0 where
+  pub item-rows : later ≡ itemsAfter a items
+  pub entry-rows : more ≡ entriesAfter a entries
+
+-- the answer r to a reading that comes to a, and the rows that are lent
 pub record RowsRead (a : Answer) (items entries : List ℕ) (r : BodyCheck) (later more : List ℕ) : Type 0 where
   pub answer : r ≡ checkOf (fitting (length items) (length entries) a)
-  pub item-rows : later ≡ itemsAfter (fitting (length items) (length entries) a) items
-  pub entry-rows : more ≡ entriesAfter (fitting (length items) (length entries) a) entries
+  pub rows : Filled (fitting (length items) (length entries) a) items entries later more

@@ -9,7 +9,6 @@ use Rattle.log_item.specs.declared.Form.the-variants.{Any}
 use Rattle.log_item.specs.declared.LogItem.{LogItem}
 use Rattle.log_item.specs.declared.EntryIndex.{EntryIndex}
 use Rattle.body_check.specs.Reading.{accepted, readItems}
-use Rattle.rows_reader.specs.Lent.{itemsAfter, entriesAfter}
 
 -- Words are stored from a place on.
 pub record Words (rows : List ℕ) (at : ℕ) (words later : List ℕ) : Type 0 where
@@ -24,8 +23,3 @@ pub record Fits (s items entries : List ℕ) : Type 0 where
   pub reads : readItems Any s ≡ accepted xs rows total next
   pub item-room : length xs * 7 ≤ length items
   pub entry-room : length rows * 3 ≤ length entries
-
--- Its rows are stored.
-pub record Filled (s items entries later more : List ℕ) : Type 0 where
-  pub item-rows : later ≡ itemsAfter (readItems Any s) items
-  pub entry-rows : more ≡ entriesAfter (readItems Any s) entries

@@ -9,8 +9,8 @@ ghost use Rattle.item_row.specs.Row.{itemWords, keyWords};
 ghost use Rattle.body_check.specs.Reading.{readItems};
 ghost use Rattle.body_check.specs.Total.{agreeing};
 ghost use Rattle.body_check.specs.Body.{readBody};
-ghost use Rattle.rows_reader.specs.Lent.{RowsRead};
-ghost use Rattle.rows_reader.specs.Private.{Words, Fits, Filled};
+ghost use Rattle.rows_reader.specs.Lent.{Filled, RowsRead};
+ghost use Rattle.rows_reader.specs.Private.{Words, Fits};
 use body_check::BodyCheck;
 use body_check::Wanted;
 use codec::NumberRead;
@@ -81,7 +81,7 @@ fn refuse(number: u32) -> BodyCheck
 // Stores the rows of an accepted body where they fit.
 fn fill(buf: &[u8], items: &mut [u64], entries: &mut [u64])
     requires { ⌜ Fits (now buf) (now items) (now entries) ⌝ }
-    ensures { λ _. ⌜ Filled (now (buf .entry)) (now (items .entry)) (now (entries .entry)) (now (items .exit)) (now (entries .exit)) ⌝ }
+    ensures { λ _. ⌜ Filled (readItems Any (now (buf .entry))) (now (items .entry)) (now (entries .entry)) (now (items .exit)) (now (entries .exit)) ⌝ }
 {
     let NumberRead::Done { value, next: start } = codec::decode_var_u64(buf, 0) else {
         return;
@@ -176,19 +176,19 @@ fn put_seven(
     rows: &mut [u64],
     at: usize,
     group: u64,
+    item_type: u64,
     kind: u64,
-    which: u64,
     a: u64,
     b: u64,
     c: u64,
     d: u64,
 )
     requires { ⌜ at + 7 ≤ length (now rows) ⌝ }
-    ensures { λ _. ⌜ Words (now (rows .entry)) at (group ∷ kind ∷ which ∷ a ∷ b ∷ c ∷ d ∷ []) (now (rows .exit)) ⌝ }
+    ensures { λ _. ⌜ Words (now (rows .entry)) at (group ∷ «item_type» ∷ kind ∷ a ∷ b ∷ c ∷ d ∷ []) (now (rows .exit)) ⌝ }
 {
     rows[at] = group;
-    rows[at + 1] = kind;
-    rows[at + 2] = which;
+    rows[at + 1] = item_type;
+    rows[at + 2] = kind;
     rows[at + 3] = a;
     rows[at + 4] = b;
     rows[at + 5] = c;

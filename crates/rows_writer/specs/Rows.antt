@@ -11,7 +11,7 @@ use Rattle.item_row.specs.declared.RowRead.{RowRead}
 use Rattle.item_row.specs.declared.RowRead.the-variants.{Item, Refused}
 use Rattle.item_row.specs.Row.{rowAt}
 use Rattle.list_writer.specs.declared.Measured.{Measured}
-use Rattle.list_writer.specs.Bytes.{listBytes}
+use Rattle.list_writer.specs.Bytes.{listBytes, bodyBytes}
 use Rattle.list_writer.specs.Refusing.{Verdict, fine, refused, itemsVerdict}
 use Rattle.list_writer.specs.Answers.{measuredOf}
 
@@ -41,7 +41,7 @@ lengthsFrom words (suc n) j = getD words (j * 3 + 2) 0 ∷ lengthsFrom words n (
 unfoldable pub entryLengths : List ℕ → List ℕ
 entryLengths words = lengthsFrom words (min (length words / 3) 1024) 0
 
--- why a row is no item
+-- why a row is no item; 0 where it is one
 abbrev pub rowNumber : RowRead → ℕ
 rowNumber (Item x) = 0
 rowNumber (Refused r) = r
@@ -61,3 +61,7 @@ rowsVerdict s checked words lengths =
 unfoldable pub measureRows : List ℕ → Bool → List ℕ → List ℕ → Measured
 measureRows s checked items entries =
     measuredOf (rowsVerdict s checked items (entryLengths entries)) (length (listBytes s (rowItems items) (entryLengths entries)))
+
+-- the bytes of the body
+abbrev pub rowsBytes : List ℕ → List ℕ → List ℕ → ℕ → List ℕ
+rowsBytes s items entries signature = bodyBytes s (rowItems items) (entryLengths entries) signature

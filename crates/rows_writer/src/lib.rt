@@ -6,15 +6,14 @@ ghost use mathlib.Core.Path.{_≡_};
 ghost use Prim.Native.Nat.{_+_, _*_, _≤_};
 ghost use lib.ListN.{length, getD};
 ghost use Rattle.item_row.specs.Row.{rowAt};
-ghost use Rattle.list_writer.specs.Bytes.{bodyBytes};
 ghost use Rattle.list_writer.specs.Answers.{encodedOf, laid};
-ghost use Rattle.rows_writer.specs.Rows.{rowItems, entryLengths, measureRows};
+ghost use Rattle.rows_writer.specs.Rows.{measureRows, rowsBytes};
 use item_row::RowRead;
 use item_writer::Head;
 use list_writer::Encoded;
 use list_writer::Measured;
 
-// The first refusal of a body but 21, or its length.
+// The first refusal of a body but 21, or its length and entry total.
 pub fn measure_rows(items: &[u64], entries: &[u64], store: &[u8], checked: bool) -> Measured
     ensures { λ r. ⌜ r ≡ measureRows (now (store .entry)) checked (now (items .entry)) (now (entries .entry)) ⌝ }
 {
@@ -95,7 +94,7 @@ pub fn encode_rows(
     out: &mut [u8],
     at: usize,
 ) -> Encoded
-    ensures { λ r. ⌜ (r ≡ encodedOf (measureRows (now (store .entry)) checked (now (items .entry)) (now (entries .entry))) (now (out .entry)) at) × (now (out .exit) ≡ laid r (now (out .entry)) at (bodyBytes (now (store .entry)) (rowItems (now (items .entry))) (entryLengths (now (entries .entry))) signature)) ⌝ }
+    ensures { λ r. ⌜ (r ≡ encodedOf (measureRows (now (store .entry)) checked (now (items .entry)) (now (entries .entry))) (now (out .entry)) at) × (now (out .exit) ≡ laid r (now (out .entry)) at (rowsBytes (now (store .entry)) (now (items .entry)) (now (entries .entry)) signature)) ⌝ }
 {
     let m = measure_rows(items, entries, store, checked);
     let answer = list_writer::placing(m, out.len(), at);

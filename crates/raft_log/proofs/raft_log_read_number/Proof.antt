@@ -1,10 +1,16 @@
 -- `raft_log::raft_log_read_number` meets its contract.
 -- Assumes nothing.
+use Rattle.codec.specs.declared.NumberRead.{NumberRead}
+use Rattle.log_item.specs.Reading.{numberGot}
 use Rattle.raft_log.specs.Answers.{numberReply}
+use Rattle.raft_log.specs.Reply.{Reply}
 use Rattle.raft_log.proofs.Replies.{told}
 use borrow.Author.Needs.{needs}
 use Rattle.raft_log.proofs.raft_log_read_number.Statement.{statement}
 use Rattle.raft_log.proofs.raft_log_read_number.Tie as tie
+
+abbrev replied : NumberRead → Reply
+replied r = numberReply (numberGot r)
 
 decode-var-u64-requires : tie.Need-decode-var-u64-requires
 decode-var-u64-requires c κs = search needs
@@ -19,13 +25,13 @@ enum-told-2 : tie.Need-enum-told-2
 enum-told-2 c = search needs
 
 returns : tie.Need-returns
-returns c = told numberReply (c .before .before .before .before .decode-var-u64 .ensures) (c .before .before .value .given .1)
+returns c = told replied (c .before .before .before .before .decode-var-u64 .ensures) (c .before .before .value .given .1)
 
 returns-2 : tie.Need-returns-2
-returns-2 c = told numberReply (c .before .before .before .decode-var-u64 .ensures) (c .before .enum-told .given .1)
+returns-2 c = told replied (c .before .before .before .decode-var-u64 .ensures) (c .before .enum-told .given .1)
 
 returns-3 : tie.Need-returns-3
-returns-3 c = told numberReply (c .before .before .before .decode-var-u64 .ensures) (c .before .enum-told2 .given .1)
+returns-3 c = told replied (c .before .before .before .decode-var-u64 .ensures) (c .before .enum-told2 .given .1)
 
 pub raft-log-read-number-spec : {M : Type 1} → statement M
 raft-log-read-number-spec =
