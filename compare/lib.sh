@@ -25,12 +25,24 @@ Where crates are missing: run as root '$sources/build.sh apt FOLDER' (Debian 12)
     [ -x "$oracle" ] || fail "missing: $oracle"
 }
 
+# Builds the static library of a crate in target/staticlib.
+build_library() {
+    command -v rt >/dev/null || fail "missing: rt, the command of the Rattle kit, with which the library is built"
+    (cd "$root" && rt staticlib "$1") || fail "the library $1 is not proved, so it was not built"
+}
+
+# Sets speed to the folder of libspeed.a. To be called before find_library, which may set RAFT_LOG_LIB.
+find_speed() {
+    [ -n "${RAFT_LOG_LIB:-}" ] || build_library speed
+    speed=${RAFT_LOG_LIB:-$root/target/staticlib}
+    [ -f "$speed/libspeed.a" ] || fail "missing: $speed/libspeed.a"
+}
+
 # Sets RAFT_LOG_LIB to the folder of libraft_log.a, in which every function of raft_log.h is found: one that the library does not have is a
 # stub there, which the comparison counts as missing.
 find_library() {
     if [ -z "${RAFT_LOG_LIB:-}" ]; then
-        command -v rt >/dev/null || fail "missing: rt, the command of the Rattle kit, with which the library is built"
-        (cd "$root" && rt staticlib raft_log) || fail "the library is not proved, so it was not built"
+        build_library raft_log
         RAFT_LOG_LIB=$root/target/staticlib
     fi
     library=$RAFT_LOG_LIB/libraft_log.a

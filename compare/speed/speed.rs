@@ -4,6 +4,7 @@ mod lent;
 mod plot;
 mod race;
 mod sys;
+mod values;
 
 use race::{Figure, Race};
 use raft_engine::Engine;
@@ -144,6 +145,8 @@ fn bodies(race: &mut Race) {
         let body = writer.out.clone();
         body_checked(race, name, &body);
         body_moved(race, name, &body, || writer.write() as u64);
+        body_stepped(race, name, &body);
+        body_by_value(race, name, &body, || writer.write() as u64);
         assert_eq!(writer.out, body);
     }
 }
@@ -203,6 +206,62 @@ fn body_moved(race: &mut Race, name: &'static str, data: &[u8], rust_writes: imp
         answer[1]
     };
     race.run("body written from lent rows", name, "LogItemBatch::encode and prepare_write", None, write, rust_writes);
+    assert_eq!(out, data);
+}
+
+/// The rows of each item of a body, as the reader hands them out.
+fn rows_of_items(data: &[u8]) -> Vec<values::Rows> {
+    let mut all = vec![];
+    let mut rows = [0; 4];
+    while values::nth(data, Engine::SIGNATURE, all.len(), &mut rows) == 0 {
+        all.push(rows);
+    }
+    all
+}
+
+/// One reader stepped through all items to the end, and each item's rows read one by one. Where an item's rows stand is worked out before.
+fn body_stepped(race: &mut Race, name: &'static str, data: &[u8]) {
+    let items = rows_of_items(data);
+    let step = || {
+        let data = black_box(data);
+        assert_eq!(values::nth(data, Engine::SIGNATURE, items.len(), &mut [0; 4]), values::END);
+        for first in &items {
+            let mut rows = *first;
+            for _ in 0..first[3] {
+                let before = rows;
+                assert_eq!(values::row(data, before, &mut rows), 0);
+            }
+            assert_eq!(rows[3], 0);
+        }
+        items.len() as u64
+    };
+    let rust = || Engine::decode_body(black_box(data)) as u64;
+    assert_eq!(step(), rust());
+    race.run("body stepped through", name, "LogItemBatch::decode", goal(name, 2.0), step, rust);
+}
+
+fn body_by_value(race: &mut Race, name: &'static str, data: &[u8], mut rust_writes: impl FnMut() -> u64) {
+    let read = || {
+        let mut answer = [0; 4];
+        assert_eq!(values::table(black_box(data), Engine::SIGNATURE, &mut answer), 0);
+        answer[0]
+    };
+    let rust = || Engine::decode_body(black_box(data)) as u64;
+    assert_eq!(read(), rust());
+    let asked = if name == "256 items of 4 entries" { Some(1.0) } else { None };
+    race.run("body read into a table by value", name, "LogItemBatch::decode", asked, read, rust);
+    let mut out = vec![0u8; data.len()];
+    let write = || {
+        let mut answer = [0];
+        assert_eq!(values::write(black_box(data), Engine::SIGNATURE, &mut out, &mut answer), 0);
+        answer[0]
+    };
+    let both = || {
+        black_box(rust());
+        rust_writes()
+    };
+    let against = "LogItemBatch::decode, then encode and prepare_write of an equal batch";
+    race.run("body read into a table by value and written from it", name, against, None, write, both);
     assert_eq!(out, data);
 }
 

@@ -1,0 +1,37 @@
+-- What is returned for each answer of the stepping reader and of the reading into a table: a number, and the words of the answer.
+-- Assumes nothing.
+use Prim.Native.Nat.{ℕ}
+use mathlib.Core.List.{List, [], _∷_}
+use Rattle.item_batch.specs.declared.LogItemBatch.{LogItemBatch}
+use Rattle.item_reader.specs.declared.EntryRows.{EntryRows}
+use Rattle.item_reader.specs.declared.Next.{Next}
+use Rattle.item_reader.specs.declared.Next.the-variants as next
+use Rattle.item_reader.specs.declared.RowRead.{RowRead}
+use Rattle.item_reader.specs.declared.RowRead.the-variants as row
+
+pub data Reply : Type 0 where
+  reply : (number : ℕ) (words : List ℕ) → Reply
+
+-- a number alone
+abbrev pub bare : ℕ → Reply
+bare number = reply number (0 ∷ 0 ∷ 0 ∷ 0 ∷ [])
+
+-- place, total, first index, how many
+abbrev pub rowsReply : EntryRows → Reply
+rowsReply r = reply 0 (r .at ∷ r .total ∷ r .index ∷ r .left ∷ [])
+
+-- the rows of the item, 100 at the end
+abbrev pub nthReply : Next → Reply
+nthReply (next.Item x rows) = rowsReply rows
+nthReply next.End = bare 100
+nthReply (next.Refused r) = bare (r .number)
+
+-- the rows after the row, 100 at the end
+abbrev pub rowReply : RowRead → Reply
+rowReply (row.Row x rest) = rowsReply rest
+rowReply row.End = bare 100
+rowReply (row.Refused number) = bare number
+
+-- the table's refusal, or 0, and items, entries, entry total, place after the last item
+abbrev pub tableReply : LogItemBatch → Reply
+tableReply t = reply (t .refusal .number) (t .«item_count» ∷ t .«entry_count» ∷ t .total ∷ t .next ∷ [])

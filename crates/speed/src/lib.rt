@@ -1,0 +1,116 @@
+// The stepping reader and the table by value on numbers and bytes: a static library for compare/bench alone.
+//
+// Each function returns 0, a refusal's number or END, and sets `answer` at each call.
+ghost use mathlib.Core.Path.{_≡_};
+ghost use lib.ListN.{length};
+ghost use Rattle.seal.specs.Seal.{sealedPart};
+ghost use Rattle.body_check.specs.Body.{readBody};
+ghost use Rattle.item_batch.specs.Table.{tableOf};
+ghost use Rattle.item_reader.specs.Rows.{rowAt};
+ghost use Rattle.item_reader.specs.Reader.{opened, nthOf};
+ghost use Rattle.speed.specs.Replies.{reply, rowsReply, nthReply, rowReply, tableReply};
+ghost use Rattle.speed.specs.Rewritten.{Rewritten};
+use item_batch::LogItemBatch;
+use item_reader::EntryRows;
+use item_reader::Next;
+use item_reader::RowRead;
+
+// Nothing is left; no refusal has this number.
+const END: u32 = 100;
+
+// What call number k of a reader opened on the body answers: where the item's rows stand.
+#[no_mangle]
+pub extern "C" fn speed_nth(body: &[u8], signature: u32, k: usize, answer: &mut [u64; 4]) -> u32
+    ensures { λ r. ⌜ reply r (now (answer .exit)) ≡ nthReply (nthOf (opened (body .entry) signature) k) ⌝ }
+{
+    match item_reader::nth(body, signature, k) {
+        Next::Item { item: _, rows } => put_rows(rows, answer),
+        Next::End => {
+            *answer = [0, 0, 0, 0];
+            END
+        }
+        Next::Refused(refusal) => {
+            *answer = [0, 0, 0, 0];
+            refusal.number
+        }
+    }
+}
+
+// Where the rows after the next one stand.
+#[no_mangle]
+pub extern "C" fn speed_row(
+    body: &[u8],
+    at: usize,
+    total: u32,
+    index: u64,
+    left: usize,
+    answer: &mut [u64; 4],
+) -> u32
+    ensures { λ r. ⌜ reply r (now (answer .exit)) ≡ rowReply (rowAt (sealedPart (now (body .entry))) (record { at = at; total = total; index = index; left = left })) ⌝ }
+{
+    let rows = EntryRows {
+        at,
+        total,
+        index,
+        left,
+    };
+    match item_reader::next_row(body, rows) {
+        RowRead::Row { row: _, rest } => put_rows(rest, answer),
+        RowRead::End => {
+            *answer = [0, 0, 0, 0];
+            END
+        }
+        RowRead::Refused(number) => {
+            *answer = [0, 0, 0, 0];
+            number
+        }
+    }
+}
+
+fn put_rows(rows: EntryRows, answer: &mut [u64; 4]) -> u32
+    ensures { λ r. ⌜ reply r (now (answer .exit)) ≡ rowsReply rows ⌝ }
+{
+    *answer = [
+        rows.at as u64,
+        rows.total as u64,
+        rows.index,
+        rows.left as u64,
+    ];
+    refusal::NONE
+}
+
+// A body, read into a table by value: its items, its entries, the entry total, and the place after the last item.
+#[no_mangle]
+pub extern "C" fn speed_table(body: &[u8], signature: u32, answer: &mut [u64; 4]) -> u32
+    ensures { λ r. ⌜ reply r (now (answer .exit)) ≡ tableReply (tableOf (record { at = 0; len = length (now (body .entry)) }) (record { at = 0; len = 0 }) (readBody (now (body .entry)) signature)) ⌝ }
+{
+    let t = LogItemBatch::decode(body, signature);
+    *answer = [
+        t.item_count as u64,
+        t.entry_count as u64,
+        t.total as u64,
+        t.next as u64,
+    ];
+    t.refusal.number
+}
+
+// A body, read into a table by value and written from it again under the same signature: its length.
+#[no_mangle]
+pub extern "C" fn speed_write(
+    body: &[u8],
+    signature: u32,
+    out: &mut [u8],
+    answer: &mut [u64; 1],
+) -> u32
+    ensures { λ r. ⌜ Rewritten (tableOf (record { at = 0; len = length (now (body .entry)) }) (record { at = 0; len = 0 }) (readBody (now (body .entry)) signature)) (now (body .entry)) signature (now (out .entry)) (reply r (now (answer .exit))) (now (out .exit)) ⌝ }
+{
+    let t = LogItemBatch::decode(body, signature);
+    let number = t.refusal.number;
+    if number != refusal::NONE {
+        *answer = [0];
+        return number;
+    }
+    let e = LogItemBatch::encode_unchecked(t, body, signature, out);
+    *answer = [e.length as u64];
+    e.number
+}
