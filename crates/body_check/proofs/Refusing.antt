@@ -22,17 +22,18 @@ use Rattle.body_check.specs.Body.{unless, readBody}
 
 -- ---- a piece
 
-data Says {A : Type 0} : Got A → Type 0 where
+-- What was read, or a refusal whose number is not 0.
+pub data Says {A : Type 0} : Got A → Type 0 where
   gets : {x : A} {q : ℕ} → Says (got x q)
   says : {n : ℕ} → Says (refused (suc n))
 
 module _ {A B : Type 0} where
-  then : {m : Got A} {f : A → Reading B} → Says m → ((x : A) (q : ℕ) → Says (f x q)) → Says (bind m f)
+  pub then : {m : Got A} {f : A → Reading B} → Says m → ((x : A) (q : ℕ) → Says (f x q)) → Says (bind m f)
   then gets k = k _ _
   then says k = says
 
 module _ {A : Type 0} where
-  test : (b : Bool) (n : ℕ) (m : Reading A) (p : ℕ) → Says (m p) → Says (_>>_ (b else suc n) m p)
+  pub test : (b : Bool) (n : ℕ) (m : Reading A) (p : ℕ) → Says (m p) → Says (_>>_ (b else suc n) m p)
   test true n m p h = h
   test false n m p h = says
 

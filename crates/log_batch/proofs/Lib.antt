@@ -3,5 +3,6 @@ pub mod Planning
 pub mod Framing
 pub mod Determined
 pub mod Again
+pub mod Refusing
 pub mod Theorems
 pub mod TheoremsWritten

@@ -6,7 +6,7 @@ use mathlib.Core.Path.{_≡_, refl, ap, ap₂, _∙_, sym}
 use mathlib.Core.List.{List, _++_, append-assoc}
 use mathlib.Core.Logic.{_↔_, _⊎_, inl, inr}
 use native.Mathlib.Omega.{arith}
-use borrow.Author.Tests.{le-leb}
+use borrow.Author.Tests.{le-leb, eq-eqb}
 use lib.ListN.{length, take, drop, length-append, length-drop}
 use lib.Seq.{take-append-seam, take-append-le, drop-append-le, take-at}
 use lib.Bits.{bitXor}
@@ -31,6 +31,7 @@ use Rattle.body_check.specs.declared.BodyCheck.the-variants as check
 use Rattle.body_check.specs.declared.PlainForm.the-variants as plain
 use Rattle.body_check.specs.Answers.{checkOf, yesNo, plainBody}
 use Rattle.body_check.proofs.Refusing.{refusal-some}
+use Rattle.item_batch.specs.declared.LogItemBatch.{LogItemBatch}
 use Rattle.item_batch.specs.Table.{tableOf, emptyTable}
 use Rattle.one_reading.specs.Spelling.{NumberIn, Spells, list}
 use Rattle.one_reading.specs.Acceptable.{Acceptable, Begins}
@@ -45,6 +46,7 @@ use Rattle.log_batch.specs.declared.LogBatch.{LogBatch}
 use Rattle.log_batch.specs.Header.{frame, header}
 use Rattle.log_batch.specs.Batch.{blockOf, bodyOf, passes, frontBatch, sealedBatch, batchTable, readBatch}
 use Rattle.log_batch.specs.Examples.{AllRight, table}
+use Rattle.log_batch.proofs.Refusing.{sealed-some, taken}
 use Rattle.log_batch.proofs.Frames.{header-known, front-known, batch-known}
 
 -- ---- bodies
@@ -232,6 +234,32 @@ pub body-read : (s : List ℕ) (signature : ℕ) {h : LogBatch} {q : ℕ} → se
     (agreeing (Exactly (contentLength (blockOf h s))) (readBody (bodyOf h s) signature))
 unfolding readBatch readBody
 body-read s signature e = rw (e, batch-known s signature e .sealed)
+
+-- A whole batch is accepted, so that its number is 0, exactly when header, block and seal are right and its body is accepted with an entry total
+-- that is the length of the block's content.
+pub batch-exactly : (s : List ℕ) (signature : ℕ)
+    → (readBatch s signature .refusal .number ≡ 0)
+    ↔ ((h : LogBatch) × (q : ℕ) × (sealedBatch s signature 0 ≡ got h q)
+    × ((xs : List LogItem) × (rows : List EntryIndex) × (p : ℕ) × (readBody (bodyOf h s) signature ≡ accepted xs rows (contentLength (blockOf h s)) p)))
+unfolding readBatch tableOf
+batch-exactly s signature = (λ z. to (sealedBatch s signature 0) refl z, λ k. from (k .2) (k .3 .3))
+  where
+    to : (g : Got LogBatch) → sealedBatch s signature 0 ≡ g → readBatch s signature .refusal .number ≡ 0
+        → (h : LogBatch) × (q : ℕ) × (sealedBatch s signature 0 ≡ got h q)
+        × ((xs : List LogItem) × (rows : List EntryIndex) × (p : ℕ) × (readBody (bodyOf h s) signature ≡ accepted xs rows (contentLength (blockOf h s)) p))
+    to (refused r) e z = absurd (sealed-some s signature e (rw e at z))
+    to (got h q) e z =
+        let body : Span = record { at = h .offset; len = h .len - h .offset } in
+        let block : Span = record { at = 16; len = h .offset - 16 } in
+        let read = body-read s signature e in
+        let k = taken body block (contentLength (blockOf h s)) (readBody (bodyOf h s) signature) (λ r i f. refused-number (bodyOf h s) signature f)
+        (sym (ap (λ (t : LogItemBatch). t .refusal .number) read) ∙ z) in
+        (h, q, e, k)
+
+    from : {h : LogBatch} {q : ℕ} {xs : List LogItem} {rows : List EntryIndex} {p : ℕ} → sealedBatch s signature 0 ≡ got h q
+        → readBody (bodyOf h s) signature ≡ accepted xs rows (contentLength (blockOf h s)) p → readBatch s signature .refusal .number ≡ 0
+    from {h = h} e f =
+        ap (λ (t : LogItemBatch). t .refusal .number) (body-read s signature e) ∙ (rw (f, eq-eqb (contentLength (blockOf h s)) (contentLength (blockOf h s)) refl))
 
 -- Bytes past the length are not looked at.
 module _ (a t : List ℕ) (signature : ℕ) {h : LogBatch} {q : ℕ} (e : header a 0 ≡ got h q) (whole : h .len ≡ length a) where

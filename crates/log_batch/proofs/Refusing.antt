@@ -1,0 +1,71 @@
+-- A header, a block or a seal that is refused says why: the number of a batch's refusal is not 0, which stands for none.
+-- Assumes nothing.
+use Prim.Native.Nat.{ℕ, zero, suc, _/_, _%_}
+use mathlib.Core.Path.{_≡_, refl, ap}
+use mathlib.Core.Bool.{Bool, true, false, cond}
+use mathlib.Core.List.{List}
+use native.Mathlib.Omega.{arith}
+use borrow.Author.Tests.{ne-eqb, eqb-true}
+use lib.Dec.{leb, eqb}
+use lib.ListN.{length, take, drop}
+use Rattle.codec.specs.Word.{bigEndian}
+use Rattle.seal.specs.Seal.{sealCheck, blockCheck}
+use Rattle.log_item.specs.Got.{refused, done, _>>_}
+use Rattle.log_item.specs.declared.Span.{Span}
+use Rattle.log_item.specs.declared.LogItem.{LogItem}
+use Rattle.log_item.specs.declared.EntryIndex.{EntryIndex}
+use Rattle.body_check.specs.declared.Wanted.the-variants.{Exactly}
+use Rattle.body_check.specs.Reading.{Answer, accepted, rejected}
+use Rattle.body_check.specs.Total.{agreeing}
+use Rattle.item_batch.specs.Table.{tableOf}
+use Rattle.body_check.proofs.Refusing.{Says, gets, says, then, test}
+use Rattle.log_batch.specs.declared.LogBatch.{LogBatch}
+use Rattle.log_batch.specs.Header.{frame, header}
+use Rattle.log_batch.specs.Batch.{blockOf, bodyOf, passes, frontBatch, sealedBatch}
+
+passes-says : (r : ℕ) (h : LogBatch) (p : ℕ) → Says (_>>_ (passes r) (done h) p)
+passes-says zero h p = gets
+passes-says (suc r) h p =
+    let some : suc r ≡ 0 → ⊥ = λ z. omega arith in
+    rw (ne-eqb (suc r) 0 some) says
+
+frame-says : (first second p : ℕ) → Says (frame first second p)
+unfolding frame
+frame-says first second p =
+    test (leb (first % 256) 1) 1 _ p (test (leb second (first / 256)) 2 _ p (test (leb 16 second) 3 _ p gets))
+
+module _ (s : List ℕ) where
+  header-says : (p : ℕ) → Says (header s p)
+  unfolding header
+  header-says p = test (leb 16 (length s)) 0 _ p (frame-says (bigEndian (take 8 s)) (bigEndian (take 8 (drop 8 s))) p)
+
+  front-says : (p : ℕ) → Says (frontBatch s p)
+  unfolding frontBatch
+  front-says p =
+      then (header-says p) λ h q.
+      test (leb (h .len) (length s)) 17 _ q (test (eqb (h .compression) 0) 18 _ q (passes-says (blockCheck (blockOf h s)) h q))
+
+  sealed-says : (signature p : ℕ) → Says (sealedBatch s signature p)
+  unfolding sealedBatch
+  sealed-says signature p = then (front-says p) λ h q. passes-says (sealCheck (bodyOf h s) signature) h q
+
+some : {r : ℕ} → Says {A = LogBatch} (refused r) → r ≡ 0 → ⊥
+some says z = omega arith
+
+-- The number of a refused header, block or seal is not 0.
+pub sealed-some : (s : List ℕ) (signature : ℕ) {r : ℕ} → sealedBatch s signature 0 ≡ refused r → r ≡ 0 → ⊥
+sealed-some s signature e = some (rw e at (sealed-says s signature 0))
+
+-- A table whose number is 0 is that of an accepted answer with the entry total that is wanted, where the answer's own refusals have a number.
+module _ (body block : Span) (n : ℕ) where
+  same : (xs : List LogItem) (rows : List EntryIndex) (u q : ℕ) (b : Bool) → eqb u n ≡ b
+      → tableOf body block (cond b (accepted xs rows u q) (rejected 20 0)) .refusal .number ≡ 0 → u ≡ n
+  unfolding tableOf
+  same xs rows u q true e z = eqb-true u n e
+  same xs rows u q false e z = absurd (omega (arith, z))
+
+  pub taken : (a : Answer) → ((r i : ℕ) → a ≡ rejected r i → r ≡ 0 → ⊥) → tableOf body block (agreeing (Exactly n) a) .refusal .number ≡ 0
+      → (xs : List LogItem) × (rows : List EntryIndex) × (q : ℕ) × (a ≡ accepted xs rows n q)
+  unfolding tableOf
+  taken (accepted xs rows u q) some z = (xs, rows, q, ap (λ (k : ℕ). accepted xs rows k q) (same xs rows u q (eqb u n) refl z))
+  taken (rejected r i) some z = absurd (some r i refl z)
