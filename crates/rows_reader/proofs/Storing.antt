@@ -33,7 +33,6 @@ use Rattle.body_check.specs.Reading.{Answer, accepted, rejected, readItems}
 use Rattle.item_batch.proofs.Rows.{rows-take, rows-length}
 use Rattle.item_batch.proofs.Coming.{prepend, rowOf, rest}
 use Rattle.item_batch.proofs.Filling.{Filling, count-broken, count-large, begun, next-row, row-refused, ended, next-item, item-refused}
-use Rattle.rows_reader.specs.Lent.{itemsAfter, entriesAfter}
 use Rattle.rows_reader.specs.Lent.{Filled}
 use Rattle.rows_reader.specs.Private.{Words, Fits}
 
