@@ -5,6 +5,8 @@ use denote.Ref.{now}
 use Rattle.one_answer.specs.OneAnswer.{OneAnswer}
 use Rattle.codec.proofs.decode_var_u64.Kinds as decode-kinds
 use Rattle.codec.proofs.decode_var_u64.Reads as decode-reads
+use Rattle.codec.proofs.decode_var_u64_unrolled.Kinds as unrolled-kinds
+use Rattle.codec.proofs.decode_var_u64_unrolled.Reads as unrolled-reads
 use Rattle.codec.proofs.var_u64_len.Kinds as len-kinds
 use Rattle.codec.proofs.var_u64_len.Reads as len-reads
 use Rattle.codec.proofs.encode_var_u64.Kinds as encode-kinds
@@ -26,6 +28,9 @@ use Rattle.codec.proofs.write_bytes.Reads as write-reads
 
 pub decode-var-u64 : OneAnswer 1 decode-kinds.ps decode-kinds.r decode-reads.Post (λ κs x y s t. x ≡ y)
 decode-var-u64 κs a x y s t p q = p ∙ sym q
+
+pub decode-var-u64-unrolled : OneAnswer 1 unrolled-kinds.ps unrolled-kinds.r unrolled-reads.Post (λ κs x y s t. x ≡ y)
+decode-var-u64-unrolled κs a x y s t p q = p ∙ sym q
 
 pub var-u64-len : OneAnswer 0 len-kinds.ps len-kinds.r len-reads.Post (λ κs x y s t. x ≡ y)
 var-u64-len κs a x y s t p q = p ∙ sym q

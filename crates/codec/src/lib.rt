@@ -192,22 +192,30 @@ pub fn decode_var_u64(buf: &[u8], at: usize) -> NumberRead
             next: at + 1,
         };
     }
-    decode_long(buf, at, first)
+    decode_up_to(buf, at, first, least(buf.len() - at, 9))
 }
 
-// The same where the first byte, which is known, has its top bit set: a function of its own, so that the short case stays in line.
-fn decode_long(buf: &[u8], at: usize, first: u64) -> NumberRead
-    requires { ⌜ (at < length (now buf)) × (first ≡ getD (now buf) at 0) × (128 ≤ first) × (first < 256) ⌝ }
+// The same, quicker for long numbers and too large to be put in line at many places: the loop over nine bytes is unrolled.
+pub fn decode_var_u64_unrolled(buf: &[u8], at: usize) -> NumberRead
     ensures { λ r. ⌜ r ≡ readNumber (now (buf .entry)) at ⌝ }
 {
-    let left = buf.len() - at;
-    if left < 9 {
-        return decode_up_to(buf, at, first, left);
+    if buf.len() <= at {
+        return NumberRead::Eof;
+    }
+    if buf.len() - at < 9 {
+        return decode_var_u64(buf, at);
+    }
+    let first = wide(buf[at]);
+    if first < 128 {
+        return NumberRead::Done {
+            value: first,
+            next: at + 1,
+        };
     }
     decode_up_to(buf, at, first, 9)
 }
 
-// The same by a loop over `end` bytes: nine, or all where fewer are left. With a literal 9 the compiler unrolls it.
+// The same where the first byte, which is known, has its top bit set, by a loop over `end` bytes: nine, or all where fewer are left.
 fn decode_up_to(buf: &[u8], at: usize, first: u64, end: usize) -> NumberRead
     requires { ⌜ (at < length (now buf)) × (first ≡ getD (now buf) at 0) × (128 ≤ first) × (first < 256) × (end ≡ min (length (now buf) - at) 9) ⌝ }
     ensures { λ r. ⌜ r ≡ readNumber (now (buf .entry)) at ⌝ }

@@ -51,7 +51,7 @@ pub extern "C" fn raft_log_crc32(data: &[u8]) -> u32
 pub extern "C" fn raft_log_read_number(data: &[u8], at: usize, answer: &mut [u64; 2]) -> u32
     ensures { λ r. ⌜ reply r (now (answer .exit)) ≡ numberReply (numberGot (readNumber (now («data» .entry)) at)) ⌝ }
 {
-    match codec::decode_var_u64(data, at) {
+    match codec::decode_var_u64_unrolled(data, at) {
         NumberRead::Done { value, next } => {
             *answer = [value, next as u64];
             refusal::NONE

@@ -1,4 +1,4 @@
--- `codec::decode_var_u64` meets its contract: one byte by itself, the rest by `decode_long`.
+-- `codec::decode_var_u64` meets its contract: one byte by itself, the rest by the loop.
 -- Assumes nothing.
 use mathlib.Core.Path.{sym}
 use native.Mathlib.Omega.{arith}
@@ -22,10 +22,16 @@ add-t8 c = search needs
 returns-2 : tie.Need-returns-2
 returns-2 c = first-one _ _ _ (omega arith) (c .before .wide .ensures) (c .if2 .taken)
 
-decode-long-requires : tie.Need-decode-long-requires
-decode-long-requires c κs =
-    let known = c .before .before .shared-slice-known2 .given (c .before .before .before .before .before .args .at) in
-    (search needs, c .before .wide .ensures, search needs, omega arith)
+sub-least : tie.Need-sub-least
+sub-least c = search needs
+
+least-requires : tie.Need-least-requires
+least-requires c κs = search needs
+
+decode-up-to-requires : tie.Need-decode-up-to-requires
+decode-up-to-requires c κs =
+    let known = c .before .before .before .shared-slice-known2 .given (c .before .before .before .before .before .before .args .at) in
+    (search needs, c .before .before .wide .ensures, search needs, omega arith, c .least .ensures)
 
 returns-3 : tie.Need-returns-3
 returns-3 c = search needs
@@ -39,5 +45,7 @@ decode-var-u64-spec =
     wide-requires
     add-t8
     returns-2
-    decode-long-requires
+    sub-least
+    least-requires
+    decode-up-to-requires
     returns-3)

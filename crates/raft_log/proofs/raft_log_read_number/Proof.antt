@@ -12,8 +12,8 @@ use Rattle.raft_log.proofs.raft_log_read_number.Tie as tie
 abbrev replied : NumberRead → Reply
 replied r = numberReply (numberGot r)
 
-decode-var-u64-requires : tie.Need-decode-var-u64-requires
-decode-var-u64-requires c κs = search needs
+decode-var-u64-unrolled-requires : tie.Need-decode-var-u64-unrolled-requires
+decode-var-u64-unrolled-requires c κs = search needs
 
 enum-known-value : tie.Need-enum-known-value
 enum-known-value c = search needs
@@ -25,19 +25,19 @@ enum-told-2 : tie.Need-enum-told-2
 enum-told-2 c = search needs
 
 returns : tie.Need-returns
-returns c = told replied (c .before .before .before .before .decode-var-u64 .ensures) (c .before .before .value .given .1)
+returns c = told replied (c .before .before .before .before .decode-var-u64-unrolled .ensures) (c .before .before .value .given .1)
 
 returns-2 : tie.Need-returns-2
-returns-2 c = told replied (c .before .before .before .decode-var-u64 .ensures) (c .before .enum-told .given .1)
+returns-2 c = told replied (c .before .before .before .decode-var-u64-unrolled .ensures) (c .before .enum-told .given .1)
 
 returns-3 : tie.Need-returns-3
-returns-3 c = told replied (c .before .before .before .decode-var-u64 .ensures) (c .before .enum-told2 .given .1)
+returns-3 c = told replied (c .before .before .before .decode-var-u64-unrolled .ensures) (c .before .enum-told2 .given .1)
 
 pub raft-log-read-number-spec : {M : Type 1} → statement M
 raft-log-read-number-spec =
     tie.close
     (tie.spec
-    decode-var-u64-requires
+    decode-var-u64-unrolled-requires
     enum-known-value
     enum-told
     enum-told-2
