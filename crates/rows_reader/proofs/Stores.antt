@@ -8,7 +8,6 @@ use lib.ListN.{set}
 use Rattle.log_item.specs.declared.Span.{Span}
 use Rattle.log_item.specs.declared.Command.{Command}
 use Rattle.log_item.specs.declared.Command.the-variants.{Clean, Compact}
-use Rattle.log_item.specs.declared.Op.{Op}
 use Rattle.log_item.specs.declared.Op.the-variants.{Put, Del}
 use Rattle.log_item.specs.declared.KeyValue.{KeyValue}
 use Rattle.log_item.specs.declared.EntryIndexes.{EntryIndexes}

@@ -1,6 +1,6 @@
 -- The measure of lent rows: the answer of each way out, and that it is the measure of their list where each row is an item.
 -- Assumes nothing.
-use Prim.Native.Nat.{ℕ, _/_, _≤_, _<_}
+use Prim.Native.Nat.{ℕ, _≤_, _<_}
 use mathlib.Core.Path.{_≡_, refl, sym, ap, _∙_}
 use mathlib.Core.Bool.{Bool, true, false, cond}
 use mathlib.Core.List.{List}
@@ -8,7 +8,6 @@ use native.Mathlib.Omega.{arith}
 use lib.Dec.{ltb, eqb}
 use lib.ListN.{length}
 use borrow.Author.Tests.{lt-ltb, le-ltb, eq-eqb, ne-eqb, eqb-true, ltb-false}
-use Rattle.item_row.specs.declared.RowRead.{RowRead}
 use Rattle.item_row.specs.declared.RowRead.the-variants.{Refused}
 use Rattle.item_row.specs.Row.{rowAt}
 use Rattle.codec.specs.Shortest.{shortest}

@@ -1,7 +1,7 @@
 -- `rows_reader::fill` meets its contract. The loop's invariant, `Storing`: what is stored and what is still to come are the whole answer. The measure is
 -- the items left, each with room for all tails, and the tails left.
 -- Assumes nothing.
-use Rattle.rows_reader.proofs.Storing.{Storing, not-broken, few, storing-start, same-items, same-entries, row-never, row-room, storing-row, stored-all, item-never, item-room, storing-item}
+use Rattle.rows_reader.proofs.Storing.{Storing, not-broken, storing-start, same-items, same-entries, row-never, row-room, storing-row, stored-all, item-never, item-room, storing-item}
 use Rattle.rows_reader.specs.Private.{Fits}
 use Rattle.log_item.proofs.Known.{tail-known, head-room}
 use Rattle.log_item.proofs.Fields.{learnt}
@@ -9,9 +9,7 @@ use Rattle.log_item.specs.declared.Form.the-variants.{Any}
 use Rattle.log_item.specs.Answers.{headGot, tailGot}
 use native.Mathlib.Omega.{arith}
 use borrow.Author.Needs.{needs}
-use Prim.Native.Nat.{_≤_, _-_, _+_, _<_, _*_}
-use lib.ListN.{length}
-use mathlib.Core.Path.{_≡_}
+use Prim.Native.Nat.{_-_, _+_, _*_}
 use Rattle.rows_reader.proofs.fill.Statement.{statement}
 use Rattle.rows_reader.proofs.fill.Tie as tie
 

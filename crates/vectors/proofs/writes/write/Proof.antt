@@ -6,11 +6,6 @@ use native.Mathlib.Omega.{arith}
 use borrow.Author.Needs.{needs}
 use Rattle.vectors.proofs.writes.write.Statement.{statement}
 use Rattle.vectors.proofs.writes.write.Tie as tie
-use Rattle.vectors.proofs.writes.write.Reads as reads
-use Rattle.vectors.proofs.writes.write.Lts as lts
-use Rattle.item_batch.proofs.read_items.Reads as read-items-reads
-use Rattle.vectors.proofs.edits.edited.Reads as edited-reads
-use Rattle.vectors.proofs.writes.encode.Reads as encode-reads
 
 read-items-requires : tie.Need-read-items-requires
 read-items-requires c κs = search needs
