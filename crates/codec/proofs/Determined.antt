@@ -11,6 +11,8 @@ use Rattle.codec.proofs.var_u64_len.Kinds as len-kinds
 use Rattle.codec.proofs.var_u64_len.Reads as len-reads
 use Rattle.codec.proofs.encode_var_u64.Kinds as encode-kinds
 use Rattle.codec.proofs.encode_var_u64.Reads as encode-reads
+use Rattle.codec.proofs.encode_var_u64_unrolled.Kinds as encode-unrolled-kinds
+use Rattle.codec.proofs.encode_var_u64_unrolled.Reads as encode-unrolled-reads
 use Rattle.codec.proofs.put_var_u64.Kinds as put-kinds
 use Rattle.codec.proofs.put_var_u64.Reads as put-reads
 use Rattle.codec.proofs.least.Kinds as least-kinds
@@ -43,6 +45,9 @@ put-var-u64 κs a x y s t p q = (p .0 ∙ sym (q .0), p .1 ∙ sym (q .1))
 
 pub encode-var-u64 : OneAnswer 1 encode-kinds.ps encode-kinds.r encode-reads.Post (λ κs x y s t. (x ≡ y) × (now (s .1 .0) ≡ now (t .1 .0)))
 encode-var-u64 κs a x y s t p q = (p .0 ∙ sym (q .0), p .1 ∙ sym (q .1))
+
+pub encode-var-u64-unrolled : OneAnswer 1 encode-unrolled-kinds.ps encode-unrolled-kinds.r encode-unrolled-reads.Post (λ κs x y s t. (x ≡ y) × (now (s .1 .0) ≡ now (t .1 .0)))
+encode-var-u64-unrolled κs a x y s t p q = (p .0 ∙ sym (q .0), p .1 ∙ sym (q .1))
 
 pub decode-u64 : OneAnswer 1 decode-u64-kinds.ps decode-u64-kinds.r decode-u64-reads.Post (λ κs x y s t. x ≡ y)
 decode-u64 κs a x y s t p q = p ∙ sym q

@@ -15,7 +15,7 @@ use Rattle.codec.specs.Shortest.{spell, shortest}
 use Rattle.codec.specs.Write.{placed, wroteAt, nextAt}
 use Rattle.codec.specs.declared.Wrote.{Wrote}
 use Rattle.codec.specs.declared.Wrote.the-variants.{Next, NoRoom}
-use Rattle.codec.proofs.Shortest.{spell-one, spell-more, spell-pos, fewer}
+use Rattle.codec.proofs.Shortest.{Size, small, large, size, spell-one, spell-more, spell-pos, fewer, shortest-few}
 
 -- What holds at the head of the writer's loop: what is left has a spelling, which still has to be stored from i on.
 pub record Writes (n : ℕ) (out₀ : List ℕ) (at : ℕ) (out : List ℕ) (left i : ℕ) : Type 0 where
@@ -118,3 +118,30 @@ pub one-byte : (n : ℕ) (out : List ℕ) (at : ℕ) → n < 128 → at < length
     → (Next (at + 1) ≡ wroteAt out at (shortest n)) × (set out at n ≡ placed out at (shortest n))
 unfolding shortest
 one-byte n out at t h = rw (spell-one 9 n t) (room-for out at (n ∷ []) (set out at n) (at + 1) (omega arith) (refl, refl))
+
+-- ---- the loop over nine bytes
+
+pub writes-begin : (n : ℕ) (out : List ℕ) (at : ℕ) → n < 2 ^ 64 → Writes n out at out n (at + 0)
+writes-begin n out at h = rw (add-zero at) (writes-start n out at h)
+
+module _ {n : ℕ} {out₀ : List ℕ} {at : ℕ} {out : List ℕ} {left : ℕ} (j : ℕ) (w : Writes n out₀ at out left (at + j)) where
+  pub writes-step : 128 ≤ left → Writes n out₀ at (set out (at + j) (128 + left % 128)) (left / 128) (at + (j + 1))
+  writes-step t =
+      let e : at + (j + 1) ≡ at + j + 1 = omega arith in
+      rw e (writes-more w t)
+
+  -- what is left for the tenth byte is one digit
+  pub tenth : length (shortest n) ≤ 10 → 9 ≤ j → left < 128
+  tenth few l = go (size left) (w .room) (w .small) (w .ends)
+    where
+      go : Size left → (room : ℕ) → left < 2 ^ (1 + 7 * room) → at + j + length (spell room left) ≡ at + length (shortest n) → left < 128
+      go (small h) room s e = h
+      go (large h) zero s e = absurd (omega arith)
+      go (large h) (suc room) s e = absurd (omega (arith, ap length (spell-more room left h), spell-pos room (left / 128)))
+
+  pub writes-end : n < 2 ^ 64 → j ≤ 9 → 9 ≤ j → (set out (at + 9) left ≡ sets out₀ at (shortest n)) × (at + 10 ≡ at + length (shortest n))
+  writes-end h l m =
+      let few = shortest-few n h in
+      let e : j ≡ 9 = omega arith in
+      let last = writes-last w (tenth few m) in
+      (rw e at (last .0), omega (arith, last .1))

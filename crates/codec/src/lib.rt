@@ -74,7 +74,36 @@ fn encode_long(n: u64, out: &mut [u8], at: usize) -> Wrote
     Wrote::Next(i + 1)
 }
 
-// Writes the same and answers the place after it, or the place itself where it does not fit.
+// The same, quicker for three bytes and more and too large to be put in line at many places: the loop over nine bytes is unrolled.
+pub fn encode_var_u64_unrolled(n: u64, out: &mut [u8], at: usize) -> Wrote
+    ensures { λ r. ⌜ (r ≡ wroteAt (now (out .entry)) at (shortest n)) × (now (out .exit) ≡ placed (now (out .entry)) at (shortest n)) ⌝ }
+{
+    if n < 16384 {
+        return encode_var_u64(n, out, at);
+    }
+    if out.len() < at {
+        return Wrote::NoRoom;
+    }
+    let room = out.len() - at;
+    if room < 10 {
+        return encode_var_u64(n, out, at);
+    }
+    let mut left = n;
+    let mut j: usize = 0;
+    while j < 9 {
+        if left < 128 {
+            out[at + j] = left as u8;
+            return Wrote::Next(at + j + 1);
+        }
+        out[at + j] = (128 + left % 128) as u8;
+        left = left / 128;
+        j += 1;
+    }
+    out[at + 9] = left as u8;
+    Wrote::Next(at + 10)
+}
+
+// Writes the shortest spelling of n and answers the place after it, or the place itself where it does not fit.
 pub fn put_var_u64(n: u64, out: &mut [u8], at: usize) -> usize
     ensures { λ r. ⌜ (r ≡ nextAt (now (out .entry)) at (shortest n)) × (now (out .exit) ≡ placed (now (out .entry)) at (shortest n)) ⌝ }
 {

@@ -77,7 +77,7 @@ pub extern "C" fn raft_log_write_number(
 ) -> u32
     ensures { λ r. ⌜ (reply r (now (answer .exit)) ≡ wroteReply (wroteAt (now (out .entry)) at (shortest number))) × (now (out .exit) ≡ placed (now (out .entry)) at (shortest number)) ⌝ }
 {
-    match codec::encode_var_u64(number, out, at) {
+    match codec::encode_var_u64_unrolled(number, out, at) {
         Wrote::Next(next) => {
             *answer = [next as u64];
             refusal::NONE

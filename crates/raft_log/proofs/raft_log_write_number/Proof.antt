@@ -6,8 +6,8 @@ use borrow.Author.Needs.{needs}
 use Rattle.raft_log.proofs.raft_log_write_number.Statement.{statement}
 use Rattle.raft_log.proofs.raft_log_write_number.Tie as tie
 
-encode-var-u64-requires : tie.Need-encode-var-u64-requires
-encode-var-u64-requires c κs = search needs
+encode-var-u64-unrolled-requires : tie.Need-encode-var-u64-unrolled-requires
+encode-var-u64-unrolled-requires c κs = search needs
 
 enum-known-next : tie.Need-enum-known-next
 enum-known-next c = search needs
@@ -19,19 +19,19 @@ same-length : tie.Need-same-length
 same-length c = search needs
 
 returns : tie.Need-returns
-returns c = (told wroteReply (c .before .before .before .before .before .before .encode-var-u64 .ensures .0) (c .before .before .next .given .1), c .before .before .before .before .before .before .encode-var-u64 .ensures .1)
+returns c = (told wroteReply (c .before .before .before .before .before .before .encode-var-u64-unrolled .ensures .0) (c .before .before .next .given .1), c .before .before .before .before .before .before .encode-var-u64-unrolled .ensures .1)
 
 same-length-2 : tie.Need-same-length-2
 same-length-2 c = search needs
 
 returns-2 : tie.Need-returns-2
-returns-2 c = (told wroteReply (c .before .before .before .before .before .encode-var-u64 .ensures .0) (c .before .enum-told .given .1), c .before .before .before .before .before .encode-var-u64 .ensures .1)
+returns-2 c = (told wroteReply (c .before .before .before .before .before .encode-var-u64-unrolled .ensures .0) (c .before .enum-told .given .1), c .before .before .before .before .before .encode-var-u64-unrolled .ensures .1)
 
 pub raft-log-write-number-spec : {M : Type 1} → statement M
 raft-log-write-number-spec =
     tie.close
     (tie.spec
-    encode-var-u64-requires
+    encode-var-u64-unrolled-requires
     enum-known-next
     enum-told
     same-length
