@@ -10,8 +10,9 @@ use lib.ListN.{length, take}
 use Rattle.refusal.specs.declared.Refusal.{Refusal}
 use Rattle.log_item.specs.Got.{Got, got, refused, done, bind}
 use Rattle.log_item.specs.Entries.{entriesOf}
-use Rattle.log_item.specs.Reading.{Read, head, tails, oneItem}
-use Rattle.log_item.specs.Answers.{Passed, passItem}
+use Rattle.log_item.specs.Reading.{head, tails}
+use Rattle.log_item.specs.Answers.{passTails}
+use Rattle.log_item.proofs.Passing.{totalOf, total-pass, rows-length}
 use Rattle.log_item.specs.declared.Form.the-variants.{Any}
 use Rattle.log_item.specs.declared.LogItem.{LogItem}
 use Rattle.log_item.specs.declared.EntryIndex.{EntryIndex}
@@ -37,37 +38,26 @@ module _ (s : List ℕ) (e t p : ℕ) where
     unfolding itemAt
     by-tails = rw (h, ← k)
 
-    pub no-rows : {w : EntryRows} → w ≡ rowsFrom d q t → d .count ≡ 0 → got (record { item = x; rows = w; total = t; used = e }) q ≡ itemAt s e t p
-    unfolding tails
-    no-rows f z = rw (f, by-tails, z, add-zero e)
+    -- the total and the place are those of going over the tails, and there are as many rows as tails
+    found-by : {u z : ℕ} (g : Got (List EntryIndex × ℕ)) → ((r : List EntryIndex × ℕ) (o : ℕ) → g ≡ got r o → length (r .0) ≡ d .count) → totalOf g ≡ got u z
+        → got (record { item = x; rows = rowsFrom d q t; total = u; used = e + d .count }) z ≡ foundBy g
+    found-by {u} {z} (got r o) as-many f =
+        let place : z ≡ o = cc in
+        let total : u ≡ r .1 = cc in
+        rw (place, total, ← as-many r o refl)
+    found-by (refused n) as-many f = let o : _≡_ {A = ℕ} 0 1 = cc in absurd (omega arith)
 
-    abbrev passedBy : Got (List EntryIndex × ℕ) → Got Passed
-    passedBy g =
-        bind {A = Read} {B = Passed} (bind g (λ r. done (record { item = x; rows = r .0; total = r .1 })))
-        (λ r. done (record { item = r .item; total = r .total; used = e + length (r .rows) }))
+    pub with-rows : {w : EntryRows} → w ≡ rowsFrom d q t → {u z : ℕ} → passTails Any s (d .count) t q ≡ got u z
+        → got (record { item = x; rows = w; total = u; used = e + d .count }) z ≡ itemAt s e t p
+    with-rows k f =
+        rw k (found-by (tails Any s (d .count) (d .«first_index») t q) (λ r o h. rows-length Any s (d .count) (d .«first_index») t q h)
+        (total-pass Any s (d .count) (d .«first_index») t q ∙ f)
+        ∙ sym by-tails)
 
-    pass-tails : passItem Any s e t p ≡ passedBy (tails Any s (d .count) (d .«first_index») t q)
-    unfolding passItem oneItem
-    pass-tails = rw (h, ← k)
-
-    pub with-rows : {w : EntryRows} → w ≡ rowsFrom d q t → {y : LogItem} {u m z : ℕ} → passItem Any s e t p ≡ got (record { item = y; total = u; used = m }) z
-        → got (record { item = x; rows = w; total = u; used = m }) z ≡ itemAt s e t p
-    with-rows k {y} {u} {m} {z} f = rw k (go (tails Any s (d .count) (d .«first_index») t q) (sym pass-tails ∙ f) ∙ sym by-tails)
+    pub no-tails : {n : ℕ} → passTails Any s (d .count) t q ≡ refused n → refused n ≡ itemAt s e t p
+    no-tails {n} f = go (tails Any s (d .count) (d .«first_index») t q) (total-pass Any s (d .count) (d .«first_index») t q ∙ f) ∙ sym by-tails
       where
-        go : (g : Got (List EntryIndex × ℕ)) → passedBy g ≡ got (record { item = y; total = u; used = m }) z
-            → got (record { item = x; rows = rowsFrom d q t; total = u; used = m }) z ≡ foundBy g
-        go (got r w) c =
-            let same : _≡_ {A = Passed} (record { item = x; total = r .1; used = e + length (r .0) }) (record { item = y; total = u; used = m }) = cc in
-            let place : z ≡ w = cc in
-            let total : u ≡ r .1 = ap (λ (a : Passed). a .total) (sym same) in
-            let used : m ≡ e + length (r .0) = ap (λ (a : Passed). a .used) (sym same) in
-            rw (place, total, used)
-        go (refused n) c = let o : _≡_ {A = ℕ} 0 1 = cc in absurd (omega arith)
-
-    pub no-tails : {n : ℕ} → passItem Any s e t p ≡ refused n → refused n ≡ itemAt s e t p
-    no-tails {n} f = go (tails Any s (d .count) (d .«first_index») t q) (sym pass-tails ∙ f) ∙ sym by-tails
-      where
-        go : (g : Got (List EntryIndex × ℕ)) → passedBy g ≡ refused n → refused n ≡ foundBy g
+        go : (g : Got (List EntryIndex × ℕ)) → totalOf g ≡ refused n → refused n ≡ foundBy g
         go (got r w) c = let o : _≡_ {A = ℕ} 0 1 = cc in absurd (omega arith)
         go (refused m) c = cc
 

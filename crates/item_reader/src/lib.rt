@@ -16,7 +16,6 @@ use log_item::EntryIndexes;
 use log_item::Field;
 use log_item::Form;
 use log_item::HeadRead;
-use log_item::ItemRead;
 use log_item::LogItem;
 use log_item::TailRead;
 use refusal::Refusal;
@@ -264,30 +263,17 @@ fn read_item(buf: &[u8], at: usize, total: u32, used: usize) -> Stepped
     match LogItem::decode_head(buf, at, used, Form::Any) {
         HeadRead::Done { item, next: tails } => {
             let entries = item.entries();
+            let count = entries.count;
             let rows = rows_of(entries, tails, total);
-            if entries.count == 0 {
-                return Stepped::Done {
-                    item,
-                    rows,
-                    next: tails,
-                    total,
-                    used,
-                };
-            }
-            match LogItem::decode(buf, at, total, used) {
-                ItemRead::Done {
-                    item: _,
-                    next,
-                    total: after,
-                    used: all,
-                } => Stepped::Done {
+            match log_item::skip_tails(buf, tails, count, total, Form::Any) {
+                TailRead::Done { total: after, next } => Stepped::Done {
                     item,
                     rows,
                     next,
                     total: after,
-                    used: all,
+                    used: used + count,
                 },
-                ItemRead::Refused(number) => Stepped::Refused(number),
+                TailRead::Refused(number) => Stepped::Refused(number),
             }
         }
         HeadRead::Refused(number) => Stepped::Refused(number),

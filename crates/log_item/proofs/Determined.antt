@@ -21,6 +21,8 @@ use Rattle.log_item.proofs.LogItem.entries.Kinds as entries-kinds
 use Rattle.log_item.proofs.LogItem.entries.Reads as entries-reads
 use Rattle.log_item.proofs.EntryIndexes.decode_tail.Kinds as decode-tail-kinds
 use Rattle.log_item.proofs.EntryIndexes.decode_tail.Reads as decode-tail-reads
+use Rattle.log_item.proofs.entries.skip_tails.Kinds as skip-tails-kinds
+use Rattle.log_item.proofs.entries.skip_tails.Reads as skip-tails-reads
 use Rattle.log_item.proofs.piece.read_number.Kinds as read-number-kinds
 use Rattle.log_item.proofs.piece.read_number.Reads as read-number-reads
 use Rattle.log_item.proofs.prefix.starts_with.Kinds as starts-with-kinds
@@ -74,6 +76,9 @@ entries κs a x y s t p q = p ∙ sym q
 
 pub decode-tail : OneAnswer 1 decode-tail-kinds.ps decode-tail-kinds.r decode-tail-reads.Post (λ κs x y s t. x ≡ y)
 decode-tail κs a x y s t p q = tail-same x y (p ∙ sym q)
+
+pub skip-tails : OneAnswer 1 skip-tails-kinds.ps skip-tails-kinds.r skip-tails-reads.Post (λ κs x y s t. x ≡ y)
+skip-tails κs a x y s t p q = tail-same x y (p ∙ sym q)
 
 pub read-number : OneAnswer 1 read-number-kinds.ps read-number-kinds.r read-number-reads.Post (λ κs x y s t. x ≡ y)
 read-number κs a x y s t p q = field-same x y (p ∙ sym q)

@@ -40,7 +40,7 @@ pub(crate) fn read_first_index(buf: &[u8], at: usize, count: usize, form: Form) 
 }
 
 // Goes over `count` tails: the total and the place after them.
-pub(crate) fn skip_tails(buf: &[u8], at: usize, count: usize, before: u32, form: Form) -> TailRead
+pub fn skip_tails(buf: &[u8], at: usize, count: usize, before: u32, form: Form) -> TailRead
     ensures { λ r. ⌜ tailGot r ≡ passTails form (now (buf .entry)) count before at ⌝ }
 {
     let mut left = count;

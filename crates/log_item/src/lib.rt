@@ -5,6 +5,7 @@ mod entries;
 mod piece;
 mod prefix;
 
+pub use entries::skip_tails;
 pub use piece::read_number;
 pub use prefix::is_internal_key;
 pub use prefix::lies_in;
@@ -14,7 +15,6 @@ ghost use Rattle.log_item.specs.Entries.{entriesOf};
 ghost use Rattle.log_item.specs.Reading.{command, putAt, keyValue, entryIndexes, content, head, tail};
 ghost use Rattle.log_item.specs.Answers.{commandGot, keyValueGot, entriesGot, contentGot, headGot, tailGot, itemGot, passItem};
 use entries::read_first_index;
-use entries::skip_tails;
 use piece::read_byte;
 use piece::read_span;
 

@@ -1,8 +1,10 @@
--- `item_reader::read_item` meets its contract: the head, and where entries follow it the whole item.
+-- `item_reader::read_item` meets its contract: the head, and then the way over its tails.
 -- Assumes nothing.
-use Rattle.log_item.specs.Answers.{headGot, itemGot}
+use Rattle.log_item.specs.Answers.{headGot, tailGot}
 use Rattle.log_item.proofs.Fields.{learnt}
-use Rattle.item_reader.proofs.ItemLaws.{no-head, no-rows, with-rows, no-tails}
+use Rattle.log_item.proofs.Known.{head-room}
+use Rattle.item_reader.proofs.ItemLaws.{no-head, with-rows, no-tails}
+use native.Mathlib.Omega.{arith}
 use borrow.Author.Needs.{needs}
 use Rattle.item_reader.proofs.read_item.Statement.{statement}
 use Rattle.item_reader.proofs.read_item.Tie as tie
@@ -19,14 +21,19 @@ entries-requires c κs = search needs
 rows-of-requires : tie.Need-rows-of-requires
 rows-of-requires c κs = search needs
 
-returns : tie.Need-returns
-returns c = no-rows _ _ _ _ (learnt headGot (c .before .before .before .before .before .before .before .decode-head .ensures) (c .before .before .before .before .before .item .given .1)) (c .before .before .before .entries .ensures) (c .before .before .rows-of .ensures) (c .if1 .taken)
+skip-tails-requires : tie.Need-skip-tails-requires
+skip-tails-requires c κs = search needs
 
-decode-requires : tie.Need-decode-requires
-decode-requires c κs = search needs
+enum-known-after : tie.Need-enum-known-after
+enum-known-after c = search needs
 
-enum-known-next : tie.Need-enum-known-next
-enum-known-next c = search needs
+add-t20 : tie.Need-add-t20
+add-t20 c =
+    let item = c .before .before .before .before .before .before .before in
+    let h = head-room _ _ (item .before .before .before .before .args .used) _
+    (learnt headGot (item .before .before .decode-head .ensures) (item .item .given .1))
+    (c .before .before .before .before .before .entries .ensures) 18446744073709551615 (omega arith) (omega arith) in
+    omega arith
 
 enum-known-number : tie.Need-enum-known-number
 enum-known-number c = search needs
@@ -34,14 +41,23 @@ enum-known-number c = search needs
 enum-known-number-2 : tie.Need-enum-known-number-2
 enum-known-number-2 c = search needs
 
+returns : tie.Need-returns
+returns c =
+    with-rows _ _ _ _
+    (learnt headGot (c .before .before .before .before .before .before .before .before .before .decode-head .ensures)
+    (c .before .before .before .before .before .before .before .item .given .1))
+    (c .before .before .before .before .before .entries .ensures) (c .before .before .before .before .rows-of .ensures)
+    (learnt tailGot (c .before .before .before .skip-tails .ensures) (c .before .after .given .1))
+
 returns-2 : tie.Need-returns-2
-returns-2 c = with-rows _ _ _ _ (learnt headGot (c .before .before .before .before .before .before .before .before .before .before .before .decode-head .ensures) (c .before .before .before .before .before .before .before .before .before .item .given .1)) (c .before .before .before .before .before .before .before .entries .ensures) (c .before .before .before .before .before .before .rows-of .ensures) (learnt itemGot (c .before .before .before .decode .ensures) (c .before .next .given .1))
+returns-2 c =
+    no-tails _ _ _ _
+    (learnt headGot (c .before .before .before .before .before .before .before .before .before .decode-head .ensures)
+    (c .before .before .before .before .before .before .before .item .given .1))
+    (c .before .before .before .before .before .entries .ensures) (learnt tailGot (c .before .before .before .skip-tails .ensures) (c .before .number .given .1))
 
 returns-3 : tie.Need-returns-3
-returns-3 c = no-tails _ _ _ _ (learnt headGot (c .before .before .before .before .before .before .before .before .before .before .before .decode-head .ensures) (c .before .before .before .before .before .before .before .before .before .item .given .1)) (c .before .before .before .before .before .before .before .entries .ensures) (learnt itemGot (c .before .before .before .decode .ensures) (c .before .number .given .1))
-
-returns-4 : tie.Need-returns-4
-returns-4 c = no-head _ _ _ _ (learnt headGot (c .before .before .before .decode-head .ensures) (c .before .number2 .given .1))
+returns-3 c = no-head _ _ _ _ (learnt headGot (c .before .before .before .decode-head .ensures) (c .before .number2 .given .1))
 
 pub read-item-spec : {M : Type 1} → statement M
 read-item-spec =
@@ -51,11 +67,11 @@ read-item-spec =
     enum-known-item
     entries-requires
     rows-of-requires
-    returns
-    decode-requires
-    enum-known-next
+    skip-tails-requires
+    enum-known-after
+    add-t20
     enum-known-number
     enum-known-number-2
+    returns
     returns-2
-    returns-3
-    returns-4)
+    returns-3)
