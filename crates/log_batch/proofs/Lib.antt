@@ -4,5 +4,5 @@ pub mod Framing
 pub mod Determined
 pub mod Again
 pub mod Refusing
+pub mod Whole
 pub mod Theorems
-pub mod TheoremsWritten

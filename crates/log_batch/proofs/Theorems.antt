@@ -1,28 +1,34 @@
--- What document 01 says of reading bodies and whole batches, proved of the definitions that the contracts cite; and its worked examples. What it
--- says of writing stands in TheoremsWritten.antt, of numbers and words in codec's Theorems.antt, of one item in one_reading's Agree.antt.
+-- What document 01 says of bodies and whole batches, read and written, proved of the definitions that the contracts cite; and its worked examples.
+-- What it says of numbers and words stands in codec's Theorems.antt, of one item in one_reading's Agree.antt.
 -- Assumes nothing.
-use Prim.Native.Nat.{ℕ, _+_, _-_, _≤_}
-use mathlib.Core.Path.{_≡_, refl, ap, ap₂, _∙_, sym}
-use mathlib.Core.List.{List, _++_, append-assoc}
+use Prim.Native.Nat.{ℕ, _+_, _-_, _≤_, _^_, _<_, suc}
+use mathlib.Core.Path.{_≡_, refl, ap, _∙_, sym}
+use mathlib.Core.List.{List, _++_, append-assoc, [], _∷_}
 use mathlib.Core.Logic.{_↔_, _⊎_, inl, inr}
+use mathlib.Core.Bool.{Bool}
 use native.Mathlib.Omega.{arith}
-use borrow.Author.Tests.{le-leb, eq-eqb}
-use lib.ListN.{length, take, drop, length-append, length-drop}
-use lib.Seq.{take-append-seam, take-append-le, drop-append-le, take-at}
+use borrow.Author.Tests.{le-leb, eq-eqb, ne-eqb}
+use lib.ListN.{length, take, drop}
+use lib.Seq.{take-append-seam, take-at}
 use lib.Bits.{bitXor}
 use Rattle.codec.specs.Number.{readFrom, readNumber}
 use Rattle.codec.specs.Shortest.{spell, shortest}
-use Rattle.codec.specs.Word.{bigEndian, littleEndian}
+use Rattle.codec.specs.Word.{littleEndian, littleEndianBytes}
 use Rattle.codec.specs.Byte.{Bytes}
+use Rattle.codec.proofs.Words.{length-little}
 use Rattle.crc.specs.Crc.{crcOf}
-use Rattle.seal.specs.Seal.{sealedPart, sealCheck, contentLength}
-use Rattle.log_item.specs.Got.{Got, got, refused, done, bind, _>>_}
+use Rattle.seal.specs.Seal.{sealedPart, contentLength}
+use Rattle.log_item.specs.Got.{got, refused}
 use Rattle.log_item.specs.Reading.{byte, number, span, command, putAt, keyValue, firstIndex, entryIndexes, content, head, tail, tails, oneItem}
 use Rattle.log_item.specs.declared.Span.{Span}
 use Rattle.log_item.specs.declared.LogItem.{LogItem}
 use Rattle.log_item.specs.declared.EntryIndex.{EntryIndex}
 use Rattle.log_item.specs.declared.Form.{Form}
 use Rattle.log_item.specs.declared.Form.the-variants.{Any, Plain}
+use Rattle.list_writer.specs.declared.Encoded.{Encoded}
+use Rattle.list_writer.specs.Bytes.{itemsBytes, listBytes, bodyBytes, itemsOf, footed}
+use Rattle.list_writer.specs.Refusing.{fine, itemsVerdict, listVerdict}
+use Rattle.list_writer.specs.Answers.{measuredOf, measureOf, encoded, laid, measured, encodedOf}
 use Rattle.body_check.specs.Reading.{accepted, rejected, Answer, readItems}
 use Rattle.body_check.specs.Body.{readBody}
 use Rattle.body_check.specs.declared.Wanted.the-variants.{Exactly}
@@ -33,6 +39,7 @@ use Rattle.body_check.specs.Answers.{checkOf, yesNo, plainBody}
 use Rattle.body_check.proofs.Refusing.{refusal-some}
 use Rattle.item_batch.specs.declared.LogItemBatch.{LogItemBatch}
 use Rattle.item_batch.specs.Table.{tableOf, emptyTable}
+use Rattle.item_batch.specs.Writing.{listed, rowLengths, BodyWritten, bodyItems, bodyRows, keysAndContents, AllSmall}
 use Rattle.one_reading.specs.Spelling.{NumberIn, Spells, list}
 use Rattle.one_reading.specs.Acceptable.{Acceptable, Begins}
 use Rattle.one_reading.specs.Plain.{InPlainForm}
@@ -42,14 +49,20 @@ use Rattle.one_reading.proofs.Accepts.{of-accepted}
 use Rattle.one_reading.proofs.Listing.{complete, sound, items-joined, items-indexed}
 use Rattle.one_reading.proofs.One.{one-spelled}
 use Rattle.one_reading.proofs.Bodies.{sound-body, complete-body, sound-plain, complete-plain}
+use Rattle.one_reading.proofs.Written.{written-spelled, written-bytes, written-kept, read-back, other-signature, table-small, buffer-written, buffer-read-back}
+use Rattle.one_reading.specs.Encoding.{Encodes, writes, leaves}
+use Rattle.one_reading.proofs.ListWritten.{encodes}
 use Rattle.log_batch.specs.declared.LogBatch.{LogBatch}
-use Rattle.log_batch.specs.Header.{frame, header}
-use Rattle.log_batch.specs.Batch.{blockOf, bodyOf, passes, frontBatch, sealedBatch, batchTable, readBatch}
+use Rattle.log_batch.specs.Header.{header}
+use Rattle.log_batch.specs.Batch.{blockOf, bodyOf, sealedBatch, readBatch}
 use Rattle.log_batch.specs.Examples.{AllRight, table}
-use Rattle.log_batch.proofs.Refusing.{sealed-some, taken}
-use Rattle.log_batch.proofs.Frames.{header-known, front-known, batch-known}
+use Rattle.log_batch.specs.Written.{blockBytes, framed, frameOf, batchEncoded, BatchWritten}
+use Rattle.log_batch.proofs.Planning.{planned, verdict-of, refused-length}
+use Rattle.log_batch.proofs.Framing.{whole}
+use Rattle.log_batch.proofs.Again.{body-good, content-size, block-again, body-again, content-again, sealed-again}
+use Rattle.log_batch.proofs.Whole.{empty-refused, body-alone, accepted-batch, batch-accepted, past-same}
 
--- ---- bodies
+-- ---- bodies read
 
 module _ (form : Form) (s : List ℕ) (asks : Asks form s) where
   -- A list is read exactly when it is within the limits and spells a beginning of the bytes; the place after it is where that beginning ends.
@@ -153,7 +166,7 @@ module _ (body block : Span) where
   unfolding tableOf
   check-refused r i = refl
 
--- ---- whole batches
+-- ---- whole batches read
 
 -- Document 01's worked examples hold of the definitions, by computation.
 pub table-right : AllRight table
@@ -215,25 +228,13 @@ refused-empty body block r i = refl
 
 -- So does a refused reading of a whole batch: what it hands back is the empty table with its number and item.
 pub refused-batch-empty : (s : List ℕ) (signature : ℕ) → let t = readBatch s signature in (t .refusal .number ≡ 0 → ⊥) → t ≡ emptyTable (t .refusal .number) (t .refusal .item)
-unfolding readBatch tableOf
-refused-batch-empty s signature = go (sealedBatch s signature 0)
-  where
-    empty : (body block : Span) (a : Answer) → let t = tableOf body block a in (t .refusal .number ≡ 0 → ⊥) → t ≡ emptyTable (t .refusal .number) (t .refusal .item)
-    empty body block (accepted xs rows u q) h = absurd (h refl)
-    empty body block (rejected r i) h = refl
-
-    go : (g : Got LogBatch) → let t = batchTable s g in (t .refusal .number ≡ 0 → ⊥) → t ≡ emptyTable (t .refusal .number) (t .refusal .item)
-    go (got x q) h =
-        empty (record { at = x .offset; len = x .len - x .offset }) (record { at = 16; len = x .offset - 16 })
-        (agreeing (Exactly (contentLength (blockOf x s))) (readItems Any (sealedPart (bodyOf x s)))) h
-    go (refused r) h = refl
+refused-batch-empty s signature h = empty-refused s signature h
 
 -- The body of a whole batch is read as it is by itself; then its entry total is held to the block's content.
 pub body-read : (s : List ℕ) (signature : ℕ) {h : LogBatch} {q : ℕ} → sealedBatch s signature 0 ≡ got h q
     → readBatch s signature ≡ tableOf (record { at = h .offset; len = h .len - h .offset }) (record { at = 16; len = h .offset - 16 })
     (agreeing (Exactly (contentLength (blockOf h s))) (readBody (bodyOf h s) signature))
-unfolding readBatch readBody
-body-read s signature e = rw (e, batch-known s signature e .sealed)
+body-read s signature e = body-alone s signature e
 
 -- A whole batch is accepted, so that its number is 0, exactly when header, block and seal are right and its body is accepted with an entry total
 -- that is the length of the block's content.
@@ -241,74 +242,152 @@ pub batch-exactly : (s : List ℕ) (signature : ℕ)
     → (readBatch s signature .refusal .number ≡ 0)
     ↔ ((h : LogBatch) × (q : ℕ) × (sealedBatch s signature 0 ≡ got h q)
     × ((xs : List LogItem) × (rows : List EntryIndex) × (p : ℕ) × (readBody (bodyOf h s) signature ≡ accepted xs rows (contentLength (blockOf h s)) p)))
-unfolding readBatch tableOf
-batch-exactly s signature = (λ z. to (sealedBatch s signature 0) refl z, λ k. from (k .2) (k .3 .3))
-  where
-    to : (g : Got LogBatch) → sealedBatch s signature 0 ≡ g → readBatch s signature .refusal .number ≡ 0
-        → (h : LogBatch) × (q : ℕ) × (sealedBatch s signature 0 ≡ got h q)
-        × ((xs : List LogItem) × (rows : List EntryIndex) × (p : ℕ) × (readBody (bodyOf h s) signature ≡ accepted xs rows (contentLength (blockOf h s)) p))
-    to (refused r) e z = absurd (sealed-some s signature e (rw e at z))
-    to (got h q) e z =
-        let body : Span = record { at = h .offset; len = h .len - h .offset } in
-        let block : Span = record { at = 16; len = h .offset - 16 } in
-        let read = body-read s signature e in
-        let k = taken body block (contentLength (blockOf h s)) (readBody (bodyOf h s) signature) (λ r i f. refused-number (bodyOf h s) signature f)
-        (sym (ap (λ (t : LogItemBatch). t .refusal .number) read) ∙ z) in
-        (h, q, e, k)
-
-    from : {h : LogBatch} {q : ℕ} {xs : List LogItem} {rows : List EntryIndex} {p : ℕ} → sealedBatch s signature 0 ≡ got h q
-        → readBody (bodyOf h s) signature ≡ accepted xs rows (contentLength (blockOf h s)) p → readBatch s signature .refusal .number ≡ 0
-    from {h = h} e f =
-        ap (λ (t : LogItemBatch). t .refusal .number) (body-read s signature e) ∙ (rw (f, eq-eqb (contentLength (blockOf h s)) (contentLength (blockOf h s)) refl))
+batch-exactly s signature = (λ z. accepted-batch s signature (sealedBatch s signature 0) refl z, λ k. batch-accepted s signature (k .2) (k .3 .3))
 
 -- Bytes past the length are not looked at.
-module _ (a t : List ℕ) (signature : ℕ) {h : LogBatch} {q : ℕ} (e : header a 0 ≡ got h q) (whole : h .len ≡ length a) where
-  long : length (a ++ t) ≡ length a + length t
-  long = length-append a t
+pub past-ignored : (a t : List ℕ) (signature : ℕ) {h : LogBatch} {q : ℕ} → header a 0 ≡ got h q → h .len ≡ length a
+    → readBatch (a ++ t) signature ≡ readBatch a signature
+past-ignored a t signature e whole = past-same a t signature e whole
 
-  front : (n m : ℕ) → m + n ≤ length a → take n (drop m (a ++ t)) ≡ take n (drop m a)
-  front n m l =
-      let inside : m ≤ length a = omega arith in
-      let room : n ≤ length (drop m a) = omega (arith, length-drop m a) in
-      rw (drop-append-le m a t inside) (take-append-le n (drop m a) t room)
+-- ---- bodies written
 
-  same-header : header (a ++ t) 0 ≡ header a 0
-  unfolding header
-  same-header =
-      let k = header-known a e in
-      let some : 16 ≤ length a = omega arith in
-      let more : 16 ≤ length (a ++ t) = omega (arith, long) in
-      rw (le-leb _ _ some, le-leb _ _ more) (ap₂ (λ (x y : List ℕ). frame (bigEndian x) (bigEndian y) 0) (front 8 0 (omega arith)) (front 8 8 (omega arith)))
+-- What is written of a table is spelled, with shortest numbers, by its list with its places worked out.
+module _ (checked : Bool) (t : LogItemBatch) (s : List ℕ) (signature : ℕ) (out : List ℕ) {r : Encoded} {later : List ℕ} (small : AllSmall (t .items))
+    (w : BodyWritten checked t s signature out r later) (z : r .number ≡ 0) where
+  pub body-spelled : (total : ℕ) × (take (r .length) later ≡ bodyBytes s (listed t) (rowLengths t) signature)
+      × Spells (NumberIn Plain) (bodyItems s (listed t) (rowLengths t)) (bodyRows (listed t) (rowLengths t)) total (listBytes s (listed t) (rowLengths t))
+  body-spelled =
+      let b = buffer-written checked t s signature out w z in
+      (b .0, b .1, written-spelled s checked (listed t) (rowLengths t) (b .0) (table-small t small) (b .2) .0)
 
-  same-front : frontBatch (a ++ t) 0 ≡ frontBatch a 0
-  unfolding frontBatch
-  same-front =
-      let k = header-known a e in
-      let some : h .len ≤ length a = omega arith in
-      let more : h .len ≤ length (a ++ t) = omega (arith, long) in
-      let block : blockOf h (a ++ t) ≡ blockOf h a = front (h .offset - 16) 16 (omega arith) in
-      rw (same-header, e, le-leb _ _ some, le-leb _ _ more, block)
+  module _ (bytes : Bytes s) (key : signature < 2 ^ 32) where
+    -- Reading a written body under the same signature gives that list and the same key and content bytes.
+    pub body-read-back : (total : ℕ)
+        × (readBody (take (r .length) later) signature
+        ≡ accepted (bodyItems s (listed t) (rowLengths t)) (bodyRows (listed t) (rowLengths t)) total (length (listBytes s (listed t) (rowLengths t))))
+        × (keysAndContents (take (r .length) later) (bodyItems s (listed t) (rowLengths t)) ≡ keysAndContents s (listed t))
+    body-read-back = buffer-read-back checked t s signature out small bytes key w z
 
-  same-sealed : sealedBatch (a ++ t) signature 0 ≡ sealedBatch a signature 0
-  unfolding sealedBatch
-  same-sealed = rw same-front (go (frontBatch a 0) refl)
-    where
-      go : (g : Got LogBatch) → frontBatch a 0 ≡ g
-          → bind g (λ x. _>>_ (passes (sealCheck (bodyOf x (a ++ t)) signature)) (done x)) ≡ bind g (λ x. _>>_ (passes (sealCheck (bodyOf x a) signature)) (done x))
-      go (got x p) f =
-          let k = front-known a f in
-          let body : bodyOf x (a ++ t) ≡ bodyOf x a = front (x .len - x .offset) (x .offset) (omega (arith, k .inside, k .there)) in
-          rw body
-      go (refused r) f = refl
+    -- A written body, read under a second signature, is refused with 6 exactly when the two signatures, none being 0, differ.
+    pub second-signature : (b : ℕ) → (readBody (take (r .length) later) b ≡ rejected 6 0) ↔ (signature ≡ b → ⊥)
+    second-signature b =
+        let k = buffer-written checked t s signature out w z in
+        rw (k .1) (other-signature s checked (listed t) (rowLengths t) (k .0) (table-small t small) (k .2) bytes signature b key)
 
-  pub past-ignored : readBatch (a ++ t) signature ≡ readBatch a signature
-  unfolding readBatch
-  past-ignored = ap (batchTable (a ++ t)) same-sealed ∙ go (sealedBatch a signature 0) refl
-    where
-      go : (g : Got LogBatch) → sealedBatch a signature 0 ≡ g → batchTable (a ++ t) g ≡ batchTable a g
-      go (got x p) f =
-          let k = batch-known a signature f in
-          let block : blockOf x (a ++ t) ≡ blockOf x a = front (x .offset - 16) 16 (omega (arith, k .start, k .long, k .there)) in
-          let body : bodyOf x (a ++ t) ≡ bodyOf x a = front (x .len - x .offset) (x .offset) (omega (arith, k .start, k .long, k .there)) in
-          rw (block, body)
-      go (refused r) f = refl
+-- ---- whole batches written
+
+-- Where the whole-batch writer answers a length, the batch stands at the start of the buffer, and behind it what stood there before. Its content
+-- stands after the header. Where content and items are bytes, all below 256, the batch reads as its body does by itself, with the entry total
+-- held to the content.
+module _ {checked : Bool} {xs : List LogItem} {ns s content : List ℕ} {signature : ℕ} {out : List ℕ} {r : Encoded} {later : List ℕ}
+    (w : BatchWritten checked xs ns s content signature out r later) (h : r .length ≡ 0 → ⊥) where
+  abbrev body : List ℕ
+  body = bodyBytes s xs ns signature
+
+  pub batch-stands : later ≡ framed content (bodyBytes s xs ns signature) ++ drop (r .length) out
+  batch-stands = whole w h .bytes
+
+  pub content-stands : take (length content) (drop 16 later) ≡ content
+  content-stands = rw batch-stands (content-again content body (drop (r .length) out))
+
+  pub written-read : Bytes content → Bytes (listBytes s xs ns) → signature < 2 ^ 32
+      → readBatch later signature
+      ≡ tableOf (record { at = 16 + length (blockBytes content); len = length (bodyBytes s xs ns signature) })
+      (record { at = 16; len = length (blockBytes content) })
+      (agreeing (Exactly (length content)) (readBody (bodyBytes s xs ns signature) signature))
+  written-read bytes items key =
+      let t : List ℕ = drop (r .length) out in
+      let k = whole w h in
+      let long : 16 + length (blockBytes content) + length body - (16 + length (blockBytes content)) ≡ length body = omega arith in
+      let block : 16 + length (blockBytes content) - 16 ≡ length (blockBytes content) = omega arith in
+      let size : contentLength (blockOf (frameOf content body) (framed content body ++ t)) ≡ length content =
+      ap contentLength (block-again content body t) ∙ content-size content in
+      let sealed = sealed-again content body t (rw (k .size) at (k .few)) signature bytes (body-good s xs ns signature items key) in
+      ap (λ (l : List ℕ). readBatch l signature) batch-stands ∙ body-read (framed content body ++ t) signature sealed
+      ∙ (rw (size, body-again content body t, long, block))
+
+  -- Reading a written batch gives the list with its places worked out, its rows, and the content's length as the entry total. The numbers of
+  -- the items are those of their types, below 2^64, and store and content are bytes.
+  module _ (small : AllSmall xs) where
+    fine-total : listVerdict s checked xs ns ≡ fine (length content)
+    fine-total =
+        let k = planned (measureOf s checked xs ns) (length xs) content (length out) (w .answer) h in
+        verdict-of s checked xs ns (k .some) ∙ ap fine (k .total)
+
+    pub batch-read-back : Bytes s → Bytes content → signature < 2 ^ 32
+        → readBatch later signature
+        ≡ tableOf (record { at = 16 + length (blockBytes content); len = length (bodyBytes s xs ns signature) })
+        (record { at = 16; len = length (blockBytes content) })
+        (accepted (bodyItems s xs ns) (bodyRows xs ns) (length content) (length (listBytes s xs ns)))
+    batch-read-back store bytes key =
+        let items : Bytes (listBytes s xs ns) = written-bytes s checked xs ns (length content) small fine-total store in
+        let read = read-back s checked xs ns (length content) small fine-total store signature key in
+        written-read bytes items key ∙ (rw (read, eq-eqb (length content) (length content) refl))
+
+    -- Each key and content has, in the body of the written batch, the bytes that it had.
+    pub batch-kept : keysAndContents (bodyOf (frameOf content body) later) (bodyItems s xs ns) ≡ keysAndContents s xs
+    batch-kept =
+        let t : List ℕ = drop (r .length) out in
+        ap (λ (l : List ℕ). keysAndContents (bodyOf (frameOf content body) l) (bodyItems s xs ns)) batch-stands
+        ∙ ap (λ (l : List ℕ). keysAndContents l (bodyItems s xs ns)) (body-again content body t)
+        ∙ written-kept s checked xs ns (length content) small fine-total signature
+
+-- ---- refused, and nothing to write
+
+-- A refused write of a body changes no lent byte.
+pub refused-body-kept : {checked : Bool} {t : LogItemBatch} {s : List ℕ} {signature : ℕ} {out : List ℕ} {r : Encoded} {later : List ℕ}
+    → BodyWritten checked t s signature out r later → (r .number ≡ 0 → ⊥) → later ≡ out
+refused-body-kept {checked} {t} {s} {signature} {out} {r} {later} w h =
+    go (encodes s checked (listed t) (rowLengths t) signature out 0 (w .answer) (w .written))
+  where
+    go : Encodes s checked (listed t) (rowLengths t) signature out 0 r later → later ≡ out
+    go (writes z some b) = absurd (h z)
+    go (leaves some z same) = same
+
+-- Where the answer has no length, the buffer is as it was.
+pub batch-absent : {checked : Bool} {xs : List LogItem} {ns s content : List ℕ} {signature : ℕ} {out : List ℕ} {r : Encoded} {later : List ℕ}
+    → BatchWritten checked xs ns s content signature out r later → r .length ≡ 0 → later ≡ out
+unfolding laid
+batch-absent {r = r} w h = w .written ∙ (rw (eq-eqb (r .length) 0 h))
+
+-- So a refused write of a whole batch changes no lent byte either.
+pub refused-batch-kept : {checked : Bool} {xs : List LogItem} {ns s content : List ℕ} {signature : ℕ} {out : List ℕ} {r : Encoded} {later : List ℕ}
+    → BatchWritten checked xs ns s content signature out r later → (r .number ≡ 0 → ⊥) → later ≡ out
+refused-batch-kept {checked} {xs} {ns} {s} {content} {out = out} w h =
+    batch-absent w (refused-length (measureOf s checked xs ns) (length xs) content (length out) (w .answer) h)
+
+-- The body writer given no items writes count 0 and the footer: these five bytes,
+module _ (s ns : List ℕ) where
+  pub none-bytes : (signature : ℕ) → bodyBytes s [] ns signature ≡ 0 ∷ littleEndianBytes 4 (bitXor (crcOf (0 ∷ [])) signature)
+  unfolding footed listBytes itemsBytes shortest spell
+  none-bytes signature = refl
+
+  pub none-length : (signature : ℕ) → length (bodyBytes s [] ns signature) ≡ 5
+  none-length signature = ap length (none-bytes signature) ∙ ap suc (length-little 4 (bitXor (crcOf (0 ∷ [])) signature))
+
+  pub none-measured : (checked : Bool) → measureOf s checked [] ns ≡ measured 0 0 5 0
+  unfolding measureOf measuredOf listVerdict itemsVerdict listBytes itemsBytes shortest spell
+  none-measured checked = refl
+
+-- and the buffer keeps all else.
+pub no-items : {checked : Bool} {t : LogItemBatch} {s : List ℕ} {signature : ℕ} {out : List ℕ} {r : Encoded} {later : List ℕ}
+    → BodyWritten checked t s signature out r later → t .«item_count» ≡ 0 → 5 ≤ length out
+    → (r ≡ encoded 0 0 5) × (later ≡ 0 ∷ littleEndianBytes 4 (bitXor (crcOf (0 ∷ [])) signature) ++ drop 5 out)
+unfolding itemsOf encodedOf laid
+no-items {checked} {t} {s} {signature} {out} {r} w z room =
+    let none : listed t ≡ [] = ap (itemsOf (t .items)) z in
+    let answer : r ≡ encoded 0 0 5 = w .answer ∙ (rw (none, none-measured s (rowLengths t) checked, le-leb 5 (length out) room)) in
+    (answer, w .written ∙ (rw (answer, none, none-bytes s (rowLengths t) signature, length-little, le-leb 5 (length out) room)))
+
+-- The whole-batch writer given no items and no content writes nothing and answers length 0. No items with content is 20.
+module _ (s ns : List ℕ) (checked : Bool) (room : ℕ) where
+  pub none-written : batchEncoded (measureOf s checked [] ns) 0 [] room ≡ encoded 0 0 0
+  unfolding batchEncoded
+  none-written = refl
+
+  pub content-alone : (b : ℕ) (bs : List ℕ) → batchEncoded (measureOf s checked [] ns) 0 (b ∷ bs) room ≡ encoded 20 0 0
+  unfolding batchEncoded measureOf measuredOf listVerdict itemsVerdict listBytes itemsBytes shortest spell
+  content-alone b bs =
+      let some : length (b ∷ bs) ≡ 0 → ⊥ = λ z. omega arith in
+      let more : 0 ≡ length (b ∷ bs) → ⊥ = λ z. omega arith in
+      rw (ne-eqb (length (b ∷ bs)) 0 some, ne-eqb 0 (length (b ∷ bs)) more)

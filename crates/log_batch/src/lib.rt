@@ -1,4 +1,14 @@
 // Whole batches, read and written: header, block and body. From log_batch.rs, LogBatch.
+//
+// Bodies and blocks are read in small crates below this one, and their functions have their names here too.
+pub use body_check::BodyCheck;
+pub use body_check::PlainForm;
+pub use body_check::check;
+pub use body_check::check_items;
+pub use body_check::plain;
+pub use item_batch::LogItemBatch;
+pub use item_batch::read_items;
+pub use seal::check_block;
 ghost use mathlib.Core.Path.{_≡_};
 ghost use mathlib.Core.Bool.{true, false};
 ghost use Prim.Native.Nat.{_+_, _≤_, _<_};
@@ -10,7 +20,6 @@ ghost use Rattle.item_batch.specs.Writing.{listed, rowLengths};
 ghost use Rattle.codec.specs.Write.{placed};
 ghost use Rattle.item_writer.specs.Private.{Room};
 use codec::U64Read;
-use item_batch::LogItemBatch;
 use list_writer::Encoded;
 use list_writer::Measured;
 use log_item::Span;
