@@ -3,42 +3,12 @@
 use mathlib.Core.Path.{_≡_, sym, _∙_}
 use denote.Ref.{now}
 use Rattle.one_answer.specs.OneAnswer.{OneAnswer}
-use Rattle.codec.proofs.decode_var_u64.Kinds as decode-kinds
-use Rattle.codec.proofs.decode_var_u64.Reads as decode-reads
-use Rattle.codec.proofs.decode_var_u64_unrolled.Kinds as unrolled-kinds
-use Rattle.codec.proofs.decode_var_u64_unrolled.Reads as unrolled-reads
-use Rattle.codec.proofs.var_u64_len.Kinds as len-kinds
-use Rattle.codec.proofs.var_u64_len.Reads as len-reads
 use Rattle.codec.proofs.encode_var_u64.Kinds as encode-kinds
 use Rattle.codec.proofs.encode_var_u64.Reads as encode-reads
 use Rattle.codec.proofs.encode_var_u64_unrolled.Kinds as encode-unrolled-kinds
 use Rattle.codec.proofs.encode_var_u64_unrolled.Reads as encode-unrolled-reads
 use Rattle.codec.proofs.put_var_u64.Kinds as put-kinds
 use Rattle.codec.proofs.put_var_u64.Reads as put-reads
-use Rattle.codec.proofs.least.Kinds as least-kinds
-use Rattle.codec.proofs.least.Reads as least-reads
-use Rattle.codec.proofs.decode_u64.Kinds as decode-u64-kinds
-use Rattle.codec.proofs.decode_u64.Reads as decode-u64-reads
-use Rattle.codec.proofs.encode_u64.Kinds as encode-u64-kinds
-use Rattle.codec.proofs.encode_u64.Reads as encode-u64-reads
-use Rattle.codec.proofs.decode_u32_le.Kinds as decode-u32-kinds
-use Rattle.codec.proofs.decode_u32_le.Reads as decode-u32-reads
-use Rattle.codec.proofs.encode_u32_le.Kinds as encode-u32-kinds
-use Rattle.codec.proofs.encode_u32_le.Reads as encode-u32-reads
-use Rattle.codec.proofs.write_bytes.Kinds as write-kinds
-use Rattle.codec.proofs.write_bytes.Reads as write-reads
-
-pub decode-var-u64 : OneAnswer 1 decode-kinds.ps decode-kinds.r decode-reads.Post (λ κs x y s t. x ≡ y)
-decode-var-u64 κs a x y s t p q = p ∙ sym q
-
-pub decode-var-u64-unrolled : OneAnswer 1 unrolled-kinds.ps unrolled-kinds.r unrolled-reads.Post (λ κs x y s t. x ≡ y)
-decode-var-u64-unrolled κs a x y s t p q = p ∙ sym q
-
-pub var-u64-len : OneAnswer 0 len-kinds.ps len-kinds.r len-reads.Post (λ κs x y s t. x ≡ y)
-var-u64-len κs a x y s t p q = p ∙ sym q
-
-pub least : OneAnswer 0 least-kinds.ps least-kinds.r least-reads.Post (λ κs x y s t. x ≡ y)
-least κs a x y s t p q = p ∙ sym q
 
 pub put-var-u64 : OneAnswer 1 put-kinds.ps put-kinds.r put-reads.Post (λ κs x y s t. (x ≡ y) × (now (s .1 .0) ≡ now (t .1 .0)))
 put-var-u64 κs a x y s t p q = (p .0 ∙ sym (q .0), p .1 ∙ sym (q .1))
@@ -48,18 +18,3 @@ encode-var-u64 κs a x y s t p q = (p .0 ∙ sym (q .0), p .1 ∙ sym (q .1))
 
 pub encode-var-u64-unrolled : OneAnswer 1 encode-unrolled-kinds.ps encode-unrolled-kinds.r encode-unrolled-reads.Post (λ κs x y s t. (x ≡ y) × (now (s .1 .0) ≡ now (t .1 .0)))
 encode-var-u64-unrolled κs a x y s t p q = (p .0 ∙ sym (q .0), p .1 ∙ sym (q .1))
-
-pub decode-u64 : OneAnswer 1 decode-u64-kinds.ps decode-u64-kinds.r decode-u64-reads.Post (λ κs x y s t. x ≡ y)
-decode-u64 κs a x y s t p q = p ∙ sym q
-
-pub encode-u64 : OneAnswer 1 encode-u64-kinds.ps encode-u64-kinds.r encode-u64-reads.Post (λ κs x y s t. (x ≡ y) × (now (s .1 .0) ≡ now (t .1 .0)))
-encode-u64 κs a x y s t p q = (p .0 ∙ sym (q .0), p .1 ∙ sym (q .1))
-
-pub decode-u32-le : OneAnswer 1 decode-u32-kinds.ps decode-u32-kinds.r decode-u32-reads.Post (λ κs x y s t. x ≡ y)
-decode-u32-le κs a x y s t p q = p ∙ sym q
-
-pub encode-u32-le : OneAnswer 1 encode-u32-kinds.ps encode-u32-kinds.r encode-u32-reads.Post (λ κs x y s t. (x ≡ y) × (now (s .1 .0) ≡ now (t .1 .0)))
-encode-u32-le κs a x y s t p q = (p .0 ∙ sym (q .0), p .1 ∙ sym (q .1))
-
-pub write-bytes : OneAnswer 2 write-kinds.ps write-kinds.r write-reads.Post (λ κs x y s t. (x ≡ y) × (now (s .1 .0) ≡ now (t .1 .0)))
-write-bytes κs a x y s t p q = (p .0 ∙ sym (q .0), p .1 ∙ sym (q .1))

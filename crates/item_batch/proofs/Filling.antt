@@ -10,10 +10,10 @@ use denote.Enum.Declared.{tagOf}
 use mathlib.Core.Logic.{inl, inr}
 use lib.ListN.{length, take, set, replicate}
 use Rattle.refusal.specs.declared.Refusal.{Refusal}
-use Rattle.codec.specs.Number.{readNumber}
-use Rattle.codec.specs.declared.NumberRead.{NumberRead}
-use Rattle.codec.specs.declared.NumberRead.the-variants.{Done, Eof, Overflow}
-use Rattle.codec.proofs.NumberRead.{the-type}
+use Rattle.numbers.specs.Number.{readNumber}
+use Rattle.numbers.specs.declared.NumberRead.{NumberRead}
+use Rattle.numbers.specs.declared.NumberRead.the-variants.{Done, Eof, Overflow}
+use Rattle.numbers.proofs.NumberRead.{the-type}
 use Rattle.log_item.specs.Got.{got, refused}
 use Rattle.log_item.specs.Entries.{entriesOf}
 use Rattle.log_item.specs.Reading.{numberGot, number, head, tail, tails}

@@ -5,7 +5,7 @@ use mathlib.Core.Path.{_≡_}
 use mathlib.Core.Bool.{Bool}
 use mathlib.Core.List.{List, [], _∷_, _++_, map}
 use lib.ListN.{length, drop}
-use Rattle.codec.specs.Shortest.{shortest}
+use Rattle.numbers.specs.Shortest.{shortest}
 use Rattle.log_item.specs.Entries.{entriesOf}
 use Rattle.log_item.specs.Prefix.{bytesOf}
 use Rattle.log_item.specs.declared.LogItem.{LogItem}

@@ -8,7 +8,7 @@ use native.Mathlib.Omega.{arith}
 use lib.Dec.{leb}
 use lib.ListN.{length, take, drop, length-append, length-take, length-drop}
 use borrow.Author.Tests.{leb-true, leb-false, le-leb, lt-leb}
-use Rattle.codec.specs.Shortest.{shortest, spell}
+use Rattle.numbers.specs.Shortest.{shortest, spell}
 use Rattle.log_item.proofs.Inside.{inside-bound}
 use Rattle.log_item.specs.Prefix.{bytesOf}
 use Rattle.log_item.specs.Entries.{typeOf}

@@ -9,10 +9,10 @@ use lib.Dec.{leb}
 use lib.ListN.{length, set, length-append}
 use lib.Seq.{sets, length-sets, sets-eq}
 use borrow.Author.Tests.{le-leb, lt-leb, leb-true, leb-false}
-use Rattle.codec.specs.Write.{wroteAt, nextAt, placed}
-use Rattle.codec.specs.declared.Wrote.{Wrote}
-use Rattle.codec.specs.declared.Wrote.the-variants.{Next, NoRoom}
-use Rattle.codec.proofs.Writing.{room-for}
+use Rattle.words.specs.Write.{wroteAt, nextAt, placed}
+use Rattle.words.specs.declared.Wrote.{Wrote}
+use Rattle.words.specs.declared.Wrote.the-variants.{Next, NoRoom}
+use Rattle.words.proofs.Writing.{room-for}
 use Rattle.item_writer.specs.declared.PartWrote.{PartWrote}
 use Rattle.item_writer.specs.declared.PartWrote.the-variants as part
 use Rattle.item_writer.specs.Answers.{pieceRefusal, partWrote, itemPlaced}

@@ -10,7 +10,7 @@ use lib.Dec.{ltb}
 use lib.ListN.{length, getD, take, drop, length-append, length-take, drop-of-length-le}
 use lib.Seq.{drop-cons, getD-take}
 use borrow.Author.Tests.{ltb-true, ltb-false, lt-ltb, le-ltb}
-use Rattle.codec.specs.Shortest.{shortest}
+use Rattle.numbers.specs.Shortest.{shortest}
 use Rattle.item_writer.specs.Bytes.{tailsBytes}
 use Rattle.item_writer.specs.Answers.{sumOf}
 use Rattle.item_writer.specs.Private.{Room, Stored, fitted, tailsSize}

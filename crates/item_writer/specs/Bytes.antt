@@ -2,7 +2,7 @@
 -- Assumes nothing.
 use Prim.Native.Nat.{ℕ, zero, suc, _+_}
 use mathlib.Core.List.{List, [], _∷_, _++_}
-use Rattle.codec.specs.Shortest.{shortest}
+use Rattle.numbers.specs.Shortest.{shortest}
 use Rattle.log_item.specs.Entries.{typeOf}
 use Rattle.log_item.specs.Prefix.{bytesOf}
 use Rattle.log_item.specs.declared.Span.{Span}

@@ -10,10 +10,10 @@ use lib.Bits.{bitXor}
 use lib.ListN.{length, take, drop, length-append}
 use lib.Seq.{sets-eq, drop-at, take-append-seam, length-take-le}
 use borrow.Author.Tests.{eq-eqb, ne-eqb, le-leb, lt-leb, leb-true, ltb-false}
-use Rattle.codec.specs.Shortest.{shortest}
-use Rattle.codec.specs.Word.{littleEndianBytes}
-use Rattle.codec.specs.Write.{nextAt, placed}
-use Rattle.codec.proofs.Words.{length-little}
+use Rattle.numbers.specs.Shortest.{shortest}
+use Rattle.words.specs.Word.{littleEndianBytes}
+use Rattle.words.specs.Write.{nextAt, placed}
+use Rattle.words.proofs.Words.{length-little}
 use Rattle.crc.specs.Crc.{crcOf}
 use Rattle.log_item.specs.declared.LogItem.{LogItem}
 use Rattle.item_writer.specs.Private.{Room, Stored}

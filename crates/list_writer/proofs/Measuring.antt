@@ -8,8 +8,8 @@ use native.Mathlib.Omega.{arith}
 use lib.Dec.{ltb}
 use lib.ListN.{length, getD, length-append}
 use borrow.Author.Tests.{lt-ltb, le-ltb, ltb-true, ltb-false}
-use Rattle.codec.specs.Shortest.{shortest}
-use Rattle.codec.proofs.Theorems.{shortest-spells}
+use Rattle.numbers.specs.Shortest.{shortest}
+use Rattle.numbers.proofs.Theorems.{shortest-spells}
 use Rattle.log_item.specs.Entries.{entriesOf}
 use Rattle.log_item.specs.declared.LogItem.{LogItem}
 use Rattle.item_writer.specs.declared.Head.the-variants.{Fine, Refused}

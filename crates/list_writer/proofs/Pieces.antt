@@ -8,12 +8,12 @@ use native.Mathlib.Omega.{arith}
 use lib.Bits.{bitXor}
 use lib.ListN.{length, take, drop}
 use borrow.Author.Tests.{le-leb, lt-leb}
-use Rattle.codec.specs.Word.{littleEndianBytes}
-use Rattle.codec.specs.Write.{wroteAt, nextAt, placed}
-use Rattle.codec.specs.declared.Wrote.{Wrote}
-use Rattle.codec.specs.declared.Wrote.the-variants as wrote
-use Rattle.codec.proofs.Words.{length-little}
-use Rattle.codec.proofs.Writing.{next-of, place-of}
+use Rattle.words.specs.Word.{littleEndianBytes}
+use Rattle.words.specs.Write.{wroteAt, nextAt, placed}
+use Rattle.words.specs.declared.Wrote.{Wrote}
+use Rattle.words.specs.declared.Wrote.the-variants as wrote
+use Rattle.words.proofs.Words.{length-little}
+use Rattle.words.proofs.Writing.{next-of, place-of}
 use Rattle.crc.specs.Crc.{crcOf}
 use Rattle.log_item.specs.declared.LogItem.{LogItem}
 use Rattle.item_writer.specs.Bytes.{headBytes}

@@ -8,8 +8,8 @@ use native.Mathlib.Omega.{arith}
 use lib.Dec.{ltb}
 use lib.ListN.{length, getD, length-append}
 use borrow.Author.Tests.{ltb-false}
-use Rattle.codec.specs.Shortest.{shortest}
-use Rattle.codec.specs.Write.{nextAt, placed}
+use Rattle.numbers.specs.Shortest.{shortest}
+use Rattle.words.specs.Write.{nextAt, placed}
 use Rattle.log_item.specs.Entries.{entriesOf}
 use Rattle.log_item.specs.declared.LogItem.{LogItem}
 use Rattle.item_writer.specs.Bytes.{headBytes}

@@ -5,7 +5,7 @@ use mathlib.Core.Bool.{Bool, cond}
 use mathlib.Core.List.{List}
 use lib.Dec.{ltb, leb, eqb}
 use lib.ListN.{length}
-use Rattle.codec.specs.Write.{placed}
+use Rattle.words.specs.Write.{placed}
 use Rattle.log_item.specs.declared.LogItem.{LogItem}
 use Rattle.list_writer.specs.declared.Measured.{Measured}
 use Rattle.list_writer.specs.declared.Encoded.{Encoded}

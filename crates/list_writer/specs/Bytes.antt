@@ -4,8 +4,8 @@ use Prim.Native.Nat.{ℕ, zero, suc, min}
 use mathlib.Core.List.{List, [], _∷_, _++_, map}
 use lib.Bits.{bitXor}
 use lib.ListN.{length, drop}
-use Rattle.codec.specs.Shortest.{shortest}
-use Rattle.codec.specs.Word.{littleEndianBytes}
+use Rattle.numbers.specs.Shortest.{shortest}
+use Rattle.words.specs.Word.{littleEndianBytes}
 use Rattle.crc.specs.Crc.{crcOf}
 use Rattle.log_item.specs.Blank.{blankItem, blankEntry}
 use Rattle.log_item.specs.Entries.{entriesOf}

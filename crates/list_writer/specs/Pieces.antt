@@ -6,8 +6,8 @@ use mathlib.Core.List.{List}
 use lib.Bits.{bitXor}
 use lib.Dec.{leb}
 use lib.ListN.{length, take, drop}
-use Rattle.codec.specs.Word.{littleEndianBytes}
-use Rattle.codec.specs.Write.{nextAt, placed}
+use Rattle.words.specs.Word.{littleEndianBytes}
+use Rattle.words.specs.Write.{nextAt, placed}
 use Rattle.crc.specs.Crc.{crcOf}
 use Rattle.log_item.specs.declared.LogItem.{LogItem}
 use Rattle.item_writer.specs.Bytes.{headBytes}

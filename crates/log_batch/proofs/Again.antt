@@ -11,12 +11,12 @@ use lib.Dec.{eqb, lit<}
 use lib.ListN.{length, take, drop, length-append}
 use lib.Seq.{take-at, drop-at, take-append-seam}
 use borrow.Author.Tests.{le-leb, eqb-true, eqb-false}
-use Rattle.codec.specs.Word.{bigEndian, bigEndianBytes, littleEndianBytes}
-use Rattle.codec.specs.Shortest.{shortest}
-use Rattle.codec.proofs.Shortest.{spell-pos}
-use Rattle.codec.proofs.Words.{length-big, length-little, big-endian-back, little-endian-back}
+use Rattle.words.specs.Word.{bigEndian, bigEndianBytes, littleEndianBytes}
+use Rattle.numbers.specs.Shortest.{shortest}
+use Rattle.numbers.proofs.Shortest.{spell-pos}
+use Rattle.words.proofs.Words.{length-big, length-little, big-endian-back, little-endian-back}
 use Rattle.crc.specs.Crc.{crcOf}
-use Rattle.codec.specs.Byte.{Bytes}
+use Rattle.words.specs.Byte.{Bytes}
 use Rattle.crc.proofs.Laws.{crc-lt}
 use Rattle.log_item.specs.Got.{got}
 use Rattle.log_item.specs.declared.LogItem.{LogItem}

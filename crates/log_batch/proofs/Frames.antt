@@ -7,9 +7,9 @@ use native.Mathlib.Omega.{arith}
 use borrow.Author.Tests.{le-leb, lt-leb, eq-eqb, ne-eqb}
 use lib.ListN.{length, take, drop, length-take, length-drop}
 use lib.Seq.{take-take}
-use Rattle.codec.specs.Word.{bigEndian, readU64}
-use Rattle.codec.specs.declared.U64Read.the-variants.{Done, Eof}
-use Rattle.codec.proofs.Words.{u64-known, u64-ended}
+use Rattle.words.specs.Word.{bigEndian, readU64}
+use Rattle.words.specs.declared.U64Read.the-variants.{Done, Eof}
+use Rattle.words.proofs.Words.{u64-known, u64-ended}
 use Rattle.log_item.specs.Got.{got, refused, done, _>>_}
 use Rattle.log_item.specs.declared.Form.the-variants.{Any}
 use Rattle.log_item.specs.declared.Span.{Span}

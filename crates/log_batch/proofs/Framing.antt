@@ -8,10 +8,10 @@ use native.Mathlib.Omega.{arith}
 use lib.ListN.{length, take, drop, length-append}
 use lib.Seq.{sets-eq}
 use borrow.Author.Tests.{eq-eqb, ne-eqb, le-leb, lt-leb}
-use Rattle.codec.specs.Word.{bigEndianBytes, littleEndianBytes}
-use Rattle.codec.specs.Write.{wroteAt, placed}
-use Rattle.codec.specs.declared.Wrote.{Wrote}
-use Rattle.codec.proofs.Words.{length-big, length-little}
+use Rattle.words.specs.Word.{bigEndianBytes, littleEndianBytes}
+use Rattle.words.specs.Write.{wroteAt, placed}
+use Rattle.words.specs.declared.Wrote.{Wrote}
+use Rattle.words.proofs.Words.{length-big, length-little}
 use Rattle.crc.specs.Crc.{crcOf}
 use Rattle.log_item.specs.declared.LogItem.{LogItem}
 use Rattle.item_writer.specs.Private.{Room, Stored}

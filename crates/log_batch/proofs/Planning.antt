@@ -9,8 +9,8 @@ use native.Mathlib.Omega.{arith}
 use lib.Dec.{ltb, leb, eqb}
 use lib.ListN.{length, length-append}
 use borrow.Author.Tests.{eq-eqb, ne-eqb, le-leb, lt-leb, lt-ltb, le-ltb, leb-true, ltb-false, eqb-true, eqb-false}
-use Rattle.codec.specs.Word.{bigEndianBytes, littleEndianBytes}
-use Rattle.codec.proofs.Words.{length-big, length-little}
+use Rattle.words.specs.Word.{bigEndianBytes, littleEndianBytes}
+use Rattle.words.proofs.Words.{length-big, length-little}
 use Rattle.crc.specs.Crc.{crcOf}
 use Rattle.log_item.specs.declared.LogItem.{LogItem}
 use Rattle.list_writer.specs.declared.Measured.{Measured}

@@ -8,7 +8,7 @@ use native.Mathlib.Omega.{arith}
 use borrow.Author.Tests.{ne-eqb, eqb-true}
 use lib.Dec.{leb, eqb}
 use lib.ListN.{length, take, drop}
-use Rattle.codec.specs.Word.{bigEndian}
+use Rattle.words.specs.Word.{bigEndian}
 use Rattle.seal.specs.Seal.{sealCheck, blockCheck}
 use Rattle.log_item.specs.Got.{refused, done, _>>_}
 use Rattle.log_item.specs.declared.Span.{Span}

@@ -11,11 +11,11 @@ use borrow.Author.Tests.{le-leb, eq-eqb, ne-eqb}
 use lib.ListN.{length, take, drop}
 use lib.Seq.{take-append-seam, take-at}
 use lib.Bits.{bitXor}
-use Rattle.codec.specs.Number.{readFrom, readNumber}
-use Rattle.codec.specs.Shortest.{spell, shortest}
-use Rattle.codec.specs.Word.{littleEndian, littleEndianBytes}
-use Rattle.codec.specs.Byte.{Bytes}
-use Rattle.codec.proofs.Words.{length-little}
+use Rattle.numbers.specs.Number.{readFrom, readNumber}
+use Rattle.numbers.specs.Shortest.{spell, shortest}
+use Rattle.words.specs.Word.{littleEndian, littleEndianBytes}
+use Rattle.words.specs.Byte.{Bytes}
+use Rattle.words.proofs.Words.{length-little}
 use Rattle.crc.specs.Crc.{crcOf}
 use Rattle.seal.specs.Seal.{sealedPart, contentLength}
 use Rattle.log_item.specs.Got.{got, refused}

@@ -7,7 +7,7 @@ use native.Mathlib.Omega.{arith}
 use borrow.Author.Tests.{le-leb, eq-eqb}
 use lib.ListN.{length, take, drop, length-append, length-drop}
 use lib.Seq.{take-append-le, drop-append-le}
-use Rattle.codec.specs.Word.{bigEndian}
+use Rattle.words.specs.Word.{bigEndian}
 use Rattle.seal.specs.Seal.{sealedPart, sealCheck, contentLength}
 use Rattle.log_item.specs.Got.{Got, got, refused, done, bind, _>>_}
 use Rattle.log_item.specs.declared.Span.{Span}

@@ -17,7 +17,7 @@ ghost use Rattle.log_batch.specs.Header.{frame, header, headerGot};
 ghost use Rattle.log_batch.specs.Batch.{frontBatch, sealedBatch, readBatch};
 ghost use Rattle.log_batch.specs.Written.{blockBytes, frontBytes, batchEncoded, FrontWritten, BatchWritten};
 ghost use Rattle.item_batch.specs.Writing.{listed, rowLengths};
-ghost use Rattle.codec.specs.Write.{placed};
+ghost use Rattle.words.specs.Write.{placed};
 ghost use Rattle.item_writer.specs.Private.{Room};
 use codec::U64Read;
 use list_writer::Encoded;

@@ -8,11 +8,11 @@ use native.Mathlib.Nat.{eq-zero-or-pos}
 use mathlib.Core.Logic.{⊎-elim}
 use lib.Dec.{eqb}
 use lib.ListN.{length}
-use Rattle.codec.specs.Shortest.{shortest}
-use Rattle.codec.specs.Number.{readNumber}
-use Rattle.codec.specs.declared.NumberRead.{NumberRead}
-use Rattle.codec.specs.declared.NumberRead.the-variants.{Done, Eof, Overflow}
-use Rattle.codec.proofs.Theorems.{read-moves}
+use Rattle.numbers.specs.Shortest.{shortest}
+use Rattle.numbers.specs.Number.{readNumber}
+use Rattle.numbers.specs.declared.NumberRead.{NumberRead}
+use Rattle.numbers.specs.declared.NumberRead.the-variants.{Done, Eof, Overflow}
+use Rattle.numbers.proofs.Theorems.{read-moves}
 use Rattle.log_item.specs.Got.{got, done}
 use Rattle.log_item.specs.Entries.{entriesOf}
 use Rattle.log_item.specs.Reading.{numberGot, byte, number, command, keyValue, firstIndex, entryIndexes, content, head, tail}

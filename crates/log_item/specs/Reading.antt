@@ -5,10 +5,10 @@ use mathlib.Core.Bool.{cond}
 use mathlib.Core.List.{List, [], _∷_}
 use lib.Dec.{ltb, leb, eqb}
 use lib.ListN.{length, getD}
-use Rattle.codec.specs.Number.{readNumber}
-use Rattle.codec.specs.Shortest.{shortest}
-use Rattle.codec.specs.declared.NumberRead.{NumberRead}
-use Rattle.codec.specs.declared.NumberRead.the-variants.{Done, Eof, Overflow}
+use Rattle.numbers.specs.Number.{readNumber}
+use Rattle.numbers.specs.Shortest.{shortest}
+use Rattle.numbers.specs.declared.NumberRead.{NumberRead}
+use Rattle.numbers.specs.declared.NumberRead.the-variants.{Done, Eof, Overflow}
 use Rattle.log_item.specs.Got.{Got, got, refused, Reading, done, upto, refuse, here, bind, _>>=_, _>>_, Test, _else_}
 use Rattle.log_item.specs.Entries.{entriesOf}
 use Rattle.log_item.specs.declared.Form.{Form}

@@ -9,12 +9,12 @@ use lib.Bits.{bitXor}
 use lib.ListN.{length, drop, length-append, length-drop, take-append-drop}
 use lib.Seq.{take-at, drop-at}
 use borrow.Author.Tests.{leb-false, eqb-true, lt-leb, eq-eqb}
-use Rattle.codec.specs.Word.{littleEndian}
+use Rattle.words.specs.Word.{littleEndian}
 use Rattle.crc.specs.Crc.{crcOf}
 use Rattle.log_item.specs.declared.Form.the-variants.{Any, Plain}
 use Rattle.log_item.specs.declared.LogItem.{LogItem}
 use Rattle.log_item.specs.declared.EntryIndex.{EntryIndex}
-use Rattle.codec.specs.Byte.{Bytes}
+use Rattle.words.specs.Byte.{Bytes}
 use Rattle.one_reading.proofs.Place.{bytes-at, at-front}
 use Rattle.body_check.specs.declared.PlainForm.the-variants as plain
 use Rattle.one_reading.specs.Acceptable.{Begins, Acceptable}

@@ -9,8 +9,8 @@ use lib.ListN.{length, take, drop, length-take}
 use lib.Seq.{take-at, drop-append-seam, drop-append-add}
 use lib.Dec.{ltb, leb}
 use borrow.Author.Tests.{ltb-false, leb-true, le-leb}
-use Rattle.codec.specs.Shortest.{shortest}
-use Rattle.codec.specs.Write.{placed}
+use Rattle.numbers.specs.Shortest.{shortest}
+use Rattle.words.specs.Write.{placed}
 use Rattle.log_item.specs.Got.{got}
 use Rattle.log_item.specs.Entries.{entriesOf, typeOf}
 use Rattle.one_reading.specs.Limits.{Each, RowFits}

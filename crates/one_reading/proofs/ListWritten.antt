@@ -9,7 +9,7 @@ use native.Mathlib.Omega.{arith}
 use lib.Dec.{ltb, leb}
 use lib.ListN.{length, take, drop}
 use borrow.Author.Tests.{eq-eqb, ne-eqb, le-leb, leb-true, ltb-false}
-use Rattle.codec.specs.Shortest.{shortest}
+use Rattle.numbers.specs.Shortest.{shortest}
 use Rattle.log_item.specs.Entries.{entriesOf}
 use Rattle.log_item.specs.declared.LogItem.{LogItem}
 use Rattle.item_writer.specs.Bytes.{headBytes, tailsBytes}

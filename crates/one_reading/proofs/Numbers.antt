@@ -7,13 +7,13 @@ use native.Mathlib.Omega.{arith}
 use lib.ListN.{length, drop}
 use lib.Seq.{drop-drop, drop-append-seam}
 use borrow.Author.Tests.{eq-eqb}
-use Rattle.codec.specs.declared.NumberRead.{NumberRead}
-use Rattle.codec.specs.declared.NumberRead.the-variants.{Done, Eof, Overflow}
-use Rattle.codec.specs.Number.{readNumber}
-use Rattle.codec.specs.Shortest.{shortest}
-use Rattle.codec.specs.Spelling.{Spells}
-use Rattle.codec.proofs.Spelled.{groups-pos}
-use Rattle.codec.proofs.Theorems.{read-iff-stands, shortest-spells, none-as-short, spells-fits}
+use Rattle.numbers.specs.declared.NumberRead.{NumberRead}
+use Rattle.numbers.specs.declared.NumberRead.the-variants.{Done, Eof, Overflow}
+use Rattle.numbers.specs.Number.{readNumber}
+use Rattle.numbers.specs.Shortest.{shortest}
+use Rattle.numbers.specs.Spelling.{Spells}
+use Rattle.numbers.proofs.Spelled.{groups-pos}
+use Rattle.numbers.proofs.Theorems.{read-iff-stands, shortest-spells, none-as-short, spells-fits}
 use Rattle.log_item.specs.declared.Form.{Form}
 use Rattle.log_item.specs.declared.Form.the-variants.{Any, Plain}
 use Rattle.log_item.specs.Got.{got}
@@ -21,7 +21,7 @@ use Rattle.one_reading.specs.Spelling.{NumberIn}
 use Rattle.one_reading.specs.Place.{At, Found, Asks}
 use Rattle.log_item.specs.Reading.{numberGot, number}
 use Rattle.log_item.proofs.Holds.{Holds, holds, refuses, after, equal}
-use Rattle.codec.specs.Byte.{Bytes}
+use Rattle.words.specs.Byte.{Bytes}
 use Rattle.one_reading.proofs.Place.{bytes-at}
 
 -- A spelling in the shortest form is a spelling.

@@ -7,7 +7,7 @@ use mathlib.Core.List.{List, _∷_, _++_, append-assoc, append-cancel-left}
 use native.Mathlib.Omega.{arith}
 use lib.ListN.{length, take}
 use lib.Seq.{take-append-seam, take-at}
-use Rattle.codec.proofs.Theorems.{one-spelling}
+use Rattle.numbers.proofs.Theorems.{one-spelling}
 use Rattle.log_item.specs.declared.Form.the-variants.{Any}
 use Rattle.log_item.specs.declared.Span.{Span}
 use Rattle.log_item.specs.declared.Command.{Command}

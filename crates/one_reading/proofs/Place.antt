@@ -8,8 +8,8 @@ use native.Mathlib.Numerals.{add-one}
 use lib.ListN.{length, getD, drop, length-append, length-drop}
 use lib.Seq.{drop-cons, drop-drop, drop-append-seam}
 use borrow.Author.Tests.{lt-ltb}
-use Rattle.codec.specs.Byte.{Bytes}
-use Rattle.codec.proofs.Bytes.{bytes-front, bytes-drop}
+use Rattle.words.specs.Byte.{Bytes}
+use Rattle.words.proofs.Bytes.{bytes-front, bytes-drop}
 use Rattle.log_item.specs.Got.{got}
 use Rattle.log_item.specs.Reading.{byte}
 use Rattle.log_item.proofs.Holds.{Holds, holds, below}

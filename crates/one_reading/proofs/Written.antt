@@ -12,11 +12,11 @@ use lib.Dec.{ltb, lit<}
 use lib.ListN.{length, take, drop, length-append}
 use lib.Seq.{take-at}
 use borrow.Author.Tests.{ltb-false, le-ltb, lt-leb, ne-eqb}
-use Rattle.codec.specs.Shortest.{shortest}
-use Rattle.codec.specs.Word.{littleEndian, littleEndianBytes}
-use Rattle.codec.proofs.Words.{length-little, little-endian-back}
+use Rattle.numbers.specs.Shortest.{shortest}
+use Rattle.words.specs.Word.{littleEndian, littleEndianBytes}
+use Rattle.words.proofs.Words.{length-little, little-endian-back}
 use Rattle.crc.specs.Crc.{crcOf}
-use Rattle.codec.specs.Byte.{Bytes}
+use Rattle.words.specs.Byte.{Bytes}
 use Rattle.crc.proofs.Laws.{crc-lt}
 use Rattle.crc.proofs.Xor.{xor-cancel-l}
 use Rattle.log_item.specs.Entries.{entriesOf}

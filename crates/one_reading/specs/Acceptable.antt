@@ -5,7 +5,7 @@ use mathlib.Core.Path.{_≡_}
 use mathlib.Core.List.{List, _++_}
 use lib.Bits.{bitXor}
 use lib.ListN.{length}
-use Rattle.codec.specs.Word.{littleEndian}
+use Rattle.words.specs.Word.{littleEndian}
 use Rattle.crc.specs.Crc.{crcOf}
 use Rattle.log_item.specs.declared.Form.{Form}
 use Rattle.log_item.specs.declared.Form.the-variants.{Any}

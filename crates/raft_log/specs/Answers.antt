@@ -5,8 +5,8 @@ use mathlib.Core.Bool.{cond}
 use mathlib.Core.List.{List, [], _∷_}
 use lib.Dec.{eqb}
 use lib.ListN.{getD}
-use Rattle.codec.specs.declared.Wrote.{Wrote}
-use Rattle.codec.specs.declared.Wrote.the-variants as wrote
+use Rattle.words.specs.declared.Wrote.{Wrote}
+use Rattle.words.specs.declared.Wrote.the-variants as wrote
 use Rattle.log_item.specs.Got.{Got, got, refused}
 use Rattle.item_row.specs.declared.RowRead.{RowRead}
 use Rattle.item_row.specs.declared.RowRead.the-variants as row

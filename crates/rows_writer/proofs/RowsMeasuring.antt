@@ -10,7 +10,7 @@ use lib.ListN.{length}
 use borrow.Author.Tests.{lt-ltb, le-ltb, eq-eqb, ne-eqb, eqb-true, ltb-false}
 use Rattle.item_row.specs.declared.RowRead.the-variants.{Refused}
 use Rattle.item_row.specs.Row.{rowAt}
-use Rattle.codec.specs.Shortest.{shortest}
+use Rattle.numbers.specs.Shortest.{shortest}
 use Rattle.list_writer.specs.declared.Measured.{Measured}
 use Rattle.list_writer.specs.Bytes.{listBytes}
 use Rattle.list_writer.specs.Refusing.{Verdict, fine, refused, itemsVerdict, listVerdict}

@@ -10,8 +10,8 @@ use lib.Bits.{bitXor}
 use lib.Dec.{leb, eqb}
 use lib.ListN.{length, drop, length-drop}
 use lib.Seq.{take-all}
-use Rattle.codec.specs.Word.{readU32}
-use Rattle.codec.specs.declared.U32Read.the-variants.{Done, Eof}
+use Rattle.words.specs.Word.{readU32}
+use Rattle.words.specs.declared.U32Read.the-variants.{Done, Eof}
 use Rattle.crc.specs.Crc.{crcOf}
 use Rattle.seal.specs.Seal.{sealedPart, footer, sealCheck, blockCheck}
 

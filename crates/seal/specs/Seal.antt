@@ -6,7 +6,7 @@ use mathlib.Core.List.{List}
 use lib.Bits.{bitXor}
 use lib.Dec.{leb, eqb}
 use lib.ListN.{length, take, drop}
-use Rattle.codec.specs.Word.{littleEndian}
+use Rattle.words.specs.Word.{littleEndian}
 use Rattle.crc.specs.Crc.{crcOf}
 
 -- what stands before the last four bytes, and the word that these are

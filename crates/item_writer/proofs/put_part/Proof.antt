@@ -2,7 +2,7 @@
 -- Assumes nothing.
 use Rattle.log_item.proofs.Inside.{inside-bound}
 use Rattle.item_writer.proofs.Lengths.{part-named}
-use Rattle.codec.proofs.Writing.{of-bytes}
+use Rattle.words.proofs.Writing.{of-bytes}
 use denote.Ref.{now}
 use Rattle.item_writer.proofs.Stores.{took, never-short}
 use native.Mathlib.Omega.{arith}

@@ -6,7 +6,7 @@ use mathlib.Core.Path.{_≡_, _∙_, sym, ap}
 use native.Mathlib.Omega.{arith}
 use borrow.Author.Needs.{needs}
 use lib.ListN.{length}
-use Rattle.codec.specs.Shortest.{shortest}
+use Rattle.numbers.specs.Shortest.{shortest}
 use Rattle.list_writer.specs.Bytes.{itemsOf, lengthsOf}
 use Rattle.list_writer.proofs.Tables.{items-length, item-at, lengths-length, length-at}
 use Rattle.list_writer.proofs.Measuring.{too-many, measure-refused, Measuring, measuring-start, measuring-row, row-refused, measuring-item, item-refused, measuring-end}

@@ -5,7 +5,7 @@ use Rattle.rows_writer.proofs.RowsMeasuring.{rows-many, rows-refused, b
 use Rattle.list_writer.proofs.Measuring.{Measuring, measuring-start, measuring-row, row-refused, measuring-item, item-refused}
 use Rattle.rows_writer.proofs.RowItems.{items-few, row-there, row-item, lengths-length, length-at, words-there}
 use Rattle.rows_writer.specs.Rows.{rowCount, rowItems, entryLengths}
-use Rattle.codec.specs.Shortest.{shortest}
+use Rattle.numbers.specs.Shortest.{shortest}
 use borrow.Author.Needs.{needs}
 use native.Mathlib.Omega.{arith}
 use mathlib.Core.Path.{_≡_, refl, sym, ap, _∙_}

@@ -1,0 +1,5 @@
+pub mod Spelled
+pub mod Reading
+pub mod Shortest
+pub mod Theorems
+pub mod Determined

@@ -1,0 +1,55 @@
+-- `numbers::decode_var_u64_unrolled` meets its contract: fewer than nine bytes by `decode_var_u64`, one byte by itself, the rest by the loop.
+-- Assumes nothing.
+use mathlib.Core.Path.{sym}
+use native.Mathlib.Omega.{arith}
+use borrow.Author.Needs.{needs}
+use Rattle.numbers.proofs.Reading.{first-short, first-one}
+use Rattle.numbers.proofs.decode_var_u64_unrolled.Statement.{statement}
+use Rattle.numbers.proofs.decode_var_u64_unrolled.Tie as tie
+
+returns : tie.Need-returns
+returns c = sym (first-short _ _ (c .if1 .taken))
+
+sub-if2 : tie.Need-sub-if2
+sub-if2 c = search needs
+
+decode-var-u64-requires : tie.Need-decode-var-u64-requires
+decode-var-u64-requires c κs = search needs
+
+returns-2 : tie.Need-returns-2
+returns-2 c = search needs
+
+shared-slice-read-wide : tie.Need-shared-slice-read-wide
+shared-slice-read-wide c = search needs
+
+wide-requires : tie.Need-wide-requires
+wide-requires c κs = search needs
+
+add-t9 : tie.Need-add-t9
+add-t9 c = search needs
+
+returns-3 : tie.Need-returns-3
+returns-3 c = first-one _ _ _ (omega arith) (c .before .wide .ensures) (c .if3 .taken)
+
+decode-up-to-requires : tie.Need-decode-up-to-requires
+decode-up-to-requires c κs =
+    let known = c .before .before .shared-slice-known2 .given (c .before .before .before .before .before .before .args .at) in
+    (search needs, c .before .wide .ensures, search needs, omega arith, omega arith)
+
+returns-4 : tie.Need-returns-4
+returns-4 c = search needs
+
+pub decode-var-u64-unrolled-spec : {M : Type 1} → statement M
+decode-var-u64-unrolled-spec =
+    tie.close
+    (tie.spec
+    returns
+    sub-if2
+    decode-var-u64-requires
+    returns-2
+    shared-slice-read-wide
+    wide-requires
+    add-t9
+    returns-3
+    decode-up-to-requires
+    returns-4)

@@ -1,0 +1,5 @@
+pub mod Bytes
+pub mod Words
+pub mod Writing
+pub mod Theorems
+pub mod Determined
