@@ -5,7 +5,7 @@ use mathlib.Core.Path.{_≡_, sym, _∙_}
 use mathlib.Core.List.{List}
 use denote.Ref.{now}
 use Rattle.one_answer.specs.OneAnswer.{OneAnswer}
-use Rattle.raft_log.specs.Reply.{Reply, reply}
+use Rattle.item_row.specs.Reply.{Reply, reply}
 use Rattle.raft_log.proofs.raft_log_crc32.Kinds as crc32-kinds
 use Rattle.raft_log.proofs.raft_log_crc32.Reads as crc32-reads
 use Rattle.raft_log.proofs.raft_log_read_number.Kinds as read-number-kinds

@@ -14,7 +14,7 @@ use Rattle.atomic_status.specs.declared.StatusRead.{StatusRead}
 use Rattle.atomic_status.specs.declared.StatusRead.the-variants.{Mark}
 use Rattle.atomic_status.specs.Status.{statusOf}
 use Rattle.entry_view.specs.View.{entryCheck}
-use Rattle.raft_log.specs.Reply.{Reply, reply}
+use Rattle.item_row.specs.Reply.{Reply, reply}
 use Rattle.raft_log.specs.Answers.{queueCheck, viewReply, viewOf, markWord, statusReply, rowStatus}
 
 -- A call's result r, promised to be m and known to be d, is replied as m is.

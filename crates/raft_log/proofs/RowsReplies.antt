@@ -12,7 +12,7 @@ use Rattle.rows_reader.specs.Lent.{RowsRead}
 use Rattle.batch_rows.specs.declared.BatchCheck.{BatchCheck}
 use Rattle.log_batch.specs.Batch.{sealedBatch, bodyPlace, blockPlace}
 use Rattle.batch_rows.specs.Rows.{placeIf, BatchRead}
-use Rattle.raft_log.specs.Reply.{Reply, reply}
+use Rattle.item_row.specs.Reply.{Reply, reply}
 use Rattle.raft_log.specs.Answers.{checkReply}
 use Rattle.raft_log.specs.RowsRead.{BodyRowsRead, batchReply, BatchRowsRead}
 

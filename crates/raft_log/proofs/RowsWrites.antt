@@ -9,7 +9,7 @@ use Rattle.list_writer.specs.Answers.{laid}
 use Rattle.rows_writer.specs.Rows.{rowsBytes}
 use Rattle.log_batch.specs.Written.{framed}
 use Rattle.batch_rows.specs.Rows.{RowsWritten}
-use Rattle.raft_log.specs.Reply.{Reply}
+use Rattle.item_row.specs.Reply.{Reply}
 use Rattle.raft_log.specs.RowsWritten.{writtenReply, bodyEncoded, BodyRowsWritten, BatchRowsWritten}
 
 module _ {checked : Bool} {items entries store : List ℕ} {signature : ℕ} {out later : List ℕ} {e : Encoded} {r : Reply} where

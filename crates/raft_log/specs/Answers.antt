@@ -21,7 +21,7 @@ use Rattle.atomic_status.specs.declared.StatusRead.{StatusRead}
 use Rattle.atomic_status.specs.declared.StatusRead.the-variants as status
 use Rattle.atomic_status.specs.Status.{statusOf}
 use Rattle.entry_view.specs.View.{entryCheck}
-use Rattle.raft_log.specs.Reply.{Reply, reply}
+use Rattle.item_row.specs.Reply.{Reply, reply}
 
 -- the number, the place after it
 abbrev pub numberReply : Got ℕ → Reply

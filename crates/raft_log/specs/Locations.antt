@@ -10,7 +10,7 @@ use Rattle.location_rules.specs.declared.Rewritten.{Rewritten}
 use Rattle.location_rules.specs.declared.Fetched.{Fetched}
 use Rattle.location_rows.specs.Words.{rowsOf}
 use Rattle.location_rows.specs.Answers.{rewriteRows, rowsAfterwards}
-use Rattle.raft_log.specs.Reply.{Reply, reply}
+use Rattle.item_row.specs.Reply.{Reply, reply}
 
 -- the gate counts where one is given
 abbrev pub gateOf : Bool → ℕ → Gate

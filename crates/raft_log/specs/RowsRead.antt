@@ -11,7 +11,7 @@ use Rattle.body_check.specs.Reading.{Answer}
 use Rattle.body_check.specs.Answers.{checkOf}
 use Rattle.rows_reader.specs.Lent.{fitting, Filled}
 use Rattle.log_batch.specs.Batch.{sealedBatch, batchAnswer, bodyPlace, blockPlace}
-use Rattle.raft_log.specs.Reply.{Reply, reply}
+use Rattle.item_row.specs.Reply.{Reply, reply}
 use Rattle.raft_log.specs.Answers.{checkReply}
 
 -- the reply r to a reading that comes to a, and the rows that are lent

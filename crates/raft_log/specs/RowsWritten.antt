@@ -9,7 +9,7 @@ use Rattle.list_writer.specs.Answers.{encodedOf, laid}
 use Rattle.rows_writer.specs.Rows.{measureRows, rowsBytes}
 use Rattle.log_batch.specs.Written.{framed}
 use Rattle.batch_rows.specs.Rows.{rowsEncoded}
-use Rattle.raft_log.specs.Reply.{Reply, reply}
+use Rattle.item_row.specs.Reply.{Reply, reply}
 
 -- item of a refusal, length
 abbrev pub writtenReply : Encoded → Reply

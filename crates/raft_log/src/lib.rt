@@ -26,7 +26,7 @@ ghost use Rattle.body_check.specs.Reading.{readItems};
 ghost use Rattle.body_check.specs.Body.{readBody};
 ghost use Rattle.body_check.specs.Answers.{checkOf, plainBody};
 ghost use Rattle.log_batch.specs.Header.{header};
-ghost use Rattle.raft_log.specs.Reply.{reply};
+ghost use Rattle.item_row.specs.Reply.{reply};
 ghost use Rattle.raft_log.specs.Answers.{numberReply, wroteReply, headerReply, checkReply, plainReply, queueCheck, viewOf, markWord, statusReply, rowStatus};
 use atomic_status::AtomicGroupStatus;
 use atomic_status::StatusRead;

@@ -1,7 +1,7 @@
 // The rewrite and the fetch of locations, on rows of words that the caller lends.
 ghost use mathlib.Core.Path.{_≡_};
 ghost use Rattle.location_rows.specs.Answers.{tableOf, fetchWords};
-ghost use Rattle.raft_log.specs.Reply.{reply};
+ghost use Rattle.item_row.specs.Reply.{reply};
 ghost use Rattle.raft_log.specs.Locations.{gateOf, fetchReply, RewriteReplied};
 use location_rules::Gate;
 

@@ -3,7 +3,7 @@ ghost use mathlib.Core.Path.{_≡_};
 ghost use Rattle.log_item.specs.declared.Form.the-variants.{Any};
 ghost use Rattle.body_check.specs.Reading.{readItems};
 ghost use Rattle.body_check.specs.Body.{readBody};
-ghost use Rattle.raft_log.specs.Reply.{reply};
+ghost use Rattle.item_row.specs.Reply.{reply};
 ghost use Rattle.raft_log.specs.RowsRead.{BodyRowsRead, batchReply, BatchRowsRead};
 use crate::put_check;
 use batch_rows::BatchCheck;

@@ -1,7 +1,7 @@
 // Bodies and batches, written from rows of words that the caller lends.
 ghost use mathlib.Core.Path.{_≡_};
 ghost use mathlib.Core.Bool.{true, false};
-ghost use Rattle.raft_log.specs.Reply.{reply};
+ghost use Rattle.item_row.specs.Reply.{reply};
 ghost use Rattle.raft_log.specs.RowsWritten.{writtenReply, BodyRowsWritten, BatchRowsWritten};
 use list_writer::Encoded;
 

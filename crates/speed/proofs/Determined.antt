@@ -5,7 +5,7 @@ use mathlib.Core.Path.{_≡_, sym, _∙_}
 use mathlib.Core.List.{List}
 use denote.Ref.{now}
 use Rattle.one_answer.specs.OneAnswer.{OneAnswer}
-use Rattle.speed.specs.Replies.{Reply, reply}
+use Rattle.item_row.specs.Reply.{Reply, reply}
 use Rattle.speed.proofs.speed_nth.Kinds as nth-kinds
 use Rattle.speed.proofs.speed_nth.Reads as nth-reads
 use Rattle.speed.proofs.speed_row.Kinds as row-kinds

@@ -9,8 +9,8 @@ use Rattle.list_writer.specs.Bytes.{bodyBytes}
 use Rattle.list_writer.specs.Answers.{encoded, laid}
 use Rattle.item_batch.specs.declared.LogItemBatch.{LogItemBatch}
 use Rattle.item_batch.specs.Writing.{BodyWritten, listed, rowLengths}
-use Rattle.speed.specs.Replies.{Reply, reply}
-use Rattle.speed.specs.Rewritten.{unlessRefused, rewrite, lengthReply, Rewritten}
+use Rattle.item_row.specs.Reply.{Reply, reply}
+use Rattle.speed.specs.Again.{unlessRefused, again, lengthReply, WrittenAgain}
 
 -- A call's result r, promised to be m and known to be d, is replied as m is.
 pub told : {R : Type 0} (f : R → Reply) {r d m : R} → r ≡ m → r ≡ d → f d ≡ f m
@@ -27,8 +27,8 @@ module _ (e : Encoded) where
   fine-is h = rw h
 
 module _ (body : List ℕ) (signature : ℕ) (out : List ℕ) where
-  answered : (t : LogItemBatch) {later : List ℕ} {e : Encoded} → e ≡ rewrite t body out
-      → later ≡ laid e out 0 (bodyBytes body (listed t) (rowLengths t) signature) → Rewritten t body signature out (lengthReply e) later
+  answered : (t : LogItemBatch) {later : List ℕ} {e : Encoded} → e ≡ again t body out
+      → later ≡ laid e out 0 (bodyBytes body (listed t) (rowLengths t) signature) → WrittenAgain t body signature out (lengthReply e) later
   answered t h w =
       record {
         answer = ap lengthReply h;
@@ -37,11 +37,11 @@ module _ (body : List ℕ) (signature : ℕ) (out : List ℕ) where
 
   module _ {t m : LogItemBatch} (known : t ≡ m) where
     -- The reading is refused, and nothing is written.
-    pub rewrite-refused : (t .refusal .number ≡ 0 → ⊥) → Rewritten m body signature out (reply (t .refusal .number) (0 ∷ [])) out
+    pub rewrite-refused : (t .refusal .number ≡ 0 → ⊥) → WrittenAgain m body signature out (reply (t .refusal .number) (0 ∷ [])) out
     unfolding laid
     rewrite-refused h = rw (← known) (answered t (refused-is _ _ h) refl)
 
     -- The table is written, or its writing refused.
     pub rewrite-done : {e : Encoded} {later : List ℕ} → t .refusal .number ≡ 0 → BodyWritten false t body signature out e later
-        → Rewritten m body signature out (lengthReply e) later
+        → WrittenAgain m body signature out (lengthReply e) later
     rewrite-done h w = rw (← known) (answered t (w .answer ∙ fine-is _ h) (w .written))

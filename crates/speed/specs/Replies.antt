@@ -1,16 +1,14 @@
 -- What is returned for each answer of the stepping reader and of the reading into a table: a number, and the words of the answer.
 -- Assumes nothing.
 use Prim.Native.Nat.{ℕ}
-use mathlib.Core.List.{List, [], _∷_}
+use mathlib.Core.List.{[], _∷_}
+use Rattle.item_row.specs.Reply.{Reply, reply}
 use Rattle.item_batch.specs.declared.LogItemBatch.{LogItemBatch}
 use Rattle.item_reader.specs.declared.EntryRows.{EntryRows}
 use Rattle.item_reader.specs.declared.Next.{Next}
 use Rattle.item_reader.specs.declared.Next.the-variants as next
 use Rattle.item_reader.specs.declared.RowRead.{RowRead}
 use Rattle.item_reader.specs.declared.RowRead.the-variants as row
-
-pub data Reply : Type 0 where
-  reply : (number : ℕ) (words : List ℕ) → Reply
 
 -- a number alone
 abbrev pub bare : ℕ → Reply

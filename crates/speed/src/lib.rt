@@ -5,11 +5,12 @@ ghost use mathlib.Core.Path.{_≡_};
 ghost use lib.ListN.{length};
 ghost use Rattle.seal.specs.Seal.{sealedPart};
 ghost use Rattle.body_check.specs.Body.{readBody};
+ghost use Rattle.item_row.specs.Reply.{reply};
 ghost use Rattle.item_batch.specs.Table.{tableOf};
 ghost use Rattle.item_reader.specs.Rows.{rowAt};
 ghost use Rattle.item_reader.specs.Reader.{opened, nthOf};
-ghost use Rattle.speed.specs.Replies.{reply, rowsReply, nthReply, rowReply, tableReply};
-ghost use Rattle.speed.specs.Rewritten.{Rewritten};
+ghost use Rattle.speed.specs.Replies.{rowsReply, nthReply, rowReply, tableReply};
+ghost use Rattle.speed.specs.Again.{WrittenAgain};
 use item_batch::LogItemBatch;
 use item_reader::EntryRows;
 use item_reader::Next;
@@ -102,7 +103,7 @@ pub extern "C" fn speed_write(
     out: &mut [u8],
     answer: &mut [u64; 1],
 ) -> u32
-    ensures { λ r. ⌜ Rewritten (tableOf (record { at = 0; len = length (now (body .entry)) }) (record { at = 0; len = 0 }) (readBody (now (body .entry)) signature)) (now (body .entry)) signature (now (out .entry)) (reply r (now (answer .exit))) (now (out .exit)) ⌝ }
+    ensures { λ r. ⌜ WrittenAgain (tableOf (record { at = 0; len = length (now (body .entry)) }) (record { at = 0; len = 0 }) (readBody (now (body .entry)) signature)) (now (body .entry)) signature (now (out .entry)) (reply r (now (answer .exit))) (now (out .exit)) ⌝ }
 {
     let t = LogItemBatch::decode(body, signature);
     let number = t.refusal.number;

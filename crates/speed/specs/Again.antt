@@ -9,7 +9,7 @@ use Rattle.list_writer.specs.Bytes.{bodyBytes}
 use Rattle.list_writer.specs.Answers.{encoded, measureOf, encodedOf, laid}
 use Rattle.item_batch.specs.declared.LogItemBatch.{LogItemBatch}
 use Rattle.item_batch.specs.Writing.{listed, rowLengths}
-use Rattle.speed.specs.Replies.{Reply, reply}
+use Rattle.item_row.specs.Reply.{Reply, reply}
 
 -- where the reading is refused, its refusal and no length
 abbrev pub unlessRefused : ℕ → Encoded → Encoded
@@ -17,14 +17,14 @@ unlessRefused zero e = e
 unlessRefused (suc number) e = encoded (suc number) 0 0
 
 -- else what writing the table answers, with the body as the store
-abbrev pub rewrite : LogItemBatch → List ℕ → List ℕ → Encoded
-rewrite t body out = unlessRefused (t .refusal .number) (encodedOf (measureOf body false (listed t) (rowLengths t)) out 0)
+abbrev pub again : LogItemBatch → List ℕ → List ℕ → Encoded
+again t body out = unlessRefused (t .refusal .number) (encodedOf (measureOf body false (listed t) (rowLengths t)) out 0)
 
 -- the length
 abbrev pub lengthReply : Encoded → Reply
 lengthReply e = reply (e .number) (e .length ∷ [])
 
 -- the reply r and the later contents of out for the table t of a body: the body's bytes, then what stood there; out as it was where it is refused
-pub record Rewritten (t : LogItemBatch) (body : List ℕ) (signature : ℕ) (out : List ℕ) (r : Reply) (later : List ℕ) : Type 0 where
-  pub answer : r ≡ lengthReply (rewrite t body out)
-  pub written : later ≡ laid (rewrite t body out) out 0 (bodyBytes body (listed t) (rowLengths t) signature)
+pub record WrittenAgain (t : LogItemBatch) (body : List ℕ) (signature : ℕ) (out : List ℕ) (r : Reply) (later : List ℕ) : Type 0 where
+  pub answer : r ≡ lengthReply (again t body out)
+  pub written : later ≡ laid (again t body out) out 0 (bodyBytes body (listed t) (rowLengths t) signature)

@@ -1,4 +1,4 @@
--- What a caller gets back: a refusal's number, or 0, and the words of its answer. The layout of the words is that of raft_log.h.
+-- What a caller outside gets back: a refusal's number, or 0, and the words of its answer.
 -- Assumes nothing.
 use Prim.Native.Nat.{ℕ}
 use mathlib.Core.List.{List}
