@@ -16,8 +16,6 @@ use Rattle.location_rules.proofs.decide.Kinds as decide-kinds
 use Rattle.location_rules.proofs.decide.Reads as decide-reads
 use Rattle.location_rules.proofs.run_from.Kinds as run-from-kinds
 use Rattle.location_rules.proofs.run_from.Reads as run-from-reads
-use Rattle.location_rules.proofs.smaller.Kinds as smaller-kinds
-use Rattle.location_rules.proofs.smaller.Reads as smaller-reads
 
 pub stops : OneAnswer 0 stops-kinds.ps stops-kinds.r stops-reads.Post (λ κs x y s t. x ≡ y)
 stops κs a x y s t p q = p ∙ sym q
@@ -39,6 +37,3 @@ decide κs a x y s t p q = p ∙ sym q
 
 pub run-from : OneAnswer 0 run-from-kinds.ps run-from-kinds.r run-from-reads.Post (λ κs x y s t. x ≡ y)
 run-from κs a x y s t p q = p ∙ sym q
-
-pub smaller : OneAnswer 0 smaller-kinds.ps smaller-kinds.r smaller-reads.Post (λ κs x y s t. x ≡ y)
-smaller κs a x y s t p q = p ∙ sym q

@@ -1,12 +1,13 @@
 // The rules of the rewrite of locations and of the fetch before a gate that look at no list of rows: memtable asks them of records that
 // lie in a row, and location_rows of words. From memtable.rs, rewrite and fetch_entry_indexes_before.
 ghost use mathlib.Core.Path.{_≡_};
-ghost use Prim.Native.Nat.{_+_, _-_, _<_, min, max};
+ghost use Prim.Native.Nat.{_+_, _-_, _<_, max};
 ghost use Rattle.location_rules.specs.Row.{stopsAt};
 ghost use Rattle.location_rules.specs.Parts.{indexesFit, wellFormedBy, readyBy, overlapAt, overlapOf};
 ghost use Rattle.location_rules.specs.Decisions.{stopOf, answered, fetched};
 use pipe_log::Location;
 use pipe_log::LogQueue;
+use words::least;
 
 // A table by value. Its rows are lent beside it, and row i has the index first + i.
 pub struct Table {
@@ -78,13 +79,6 @@ pub fn stop_of(gate: Gate) -> Stop
     }
 }
 
-// The smaller of two numbers.
-pub fn smaller(a: usize, b: usize) -> usize
-    ensures { λ r. ⌜ r ≡ min a b ⌝ }
-{
-    if a < b { a } else { b }
-}
-
 fn larger(a: usize, b: usize) -> usize
     ensures { λ r. ⌜ r ≡ max a b ⌝ }
 {
@@ -138,13 +132,13 @@ pub fn overlap_of(own: u64, n: usize, first: u64, m: usize) -> Overlap
         if n <= start {
             return overlap_at(0, 0, 0);
         }
-        return overlap_at(start, 0, smaller(n - start, m));
+        return overlap_at(start, 0, least(n - start, m));
     }
     let from = (own - first) as usize;
     if m <= from {
         return overlap_at(0, 0, 0);
     }
-    overlap_at(0, from, smaller(n, m - from))
+    overlap_at(0, from, least(n, m - from))
 }
 
 // The overlap of len rows from these places on.

@@ -42,7 +42,7 @@ pub fn fetch_entry_indexes_before(rows: &[Location], table: Table, gate: u64) ->
     ensures { λ r. ⌜ r ≡ fetchOf (now (rows .entry)) table gate ⌝ }
 {
     let good = is_well_formed(rows, table);
-    let start = location_rules::smaller(table.count, rows.len());
+    let start = words::least(table.count, rows.len());
     let end = scan(rows, start, rows.len(), Stop::Above(gate));
     location_rules::run_from(good, table, start, end)
 }
@@ -51,7 +51,7 @@ pub fn fetch_entry_indexes_before(rows: &[Location], table: Table, gate: u64) ->
 fn is_well_formed(rows: &[Location], table: Table) -> bool
     ensures { λ r. ⌜ r ≡ wellFormed (now (rows .entry)) table ⌝ }
 {
-    let count = location_rules::smaller(table.count, rows.len());
+    let count = words::least(table.count, rows.len());
     let front = scan(rows, 0, count, Stop::Append);
     let back = scan(rows, count, rows.len(), Stop::Rewrite);
     location_rules::is_formed(table, rows.len(), front, back)

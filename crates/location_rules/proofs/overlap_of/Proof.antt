@@ -11,17 +11,17 @@ overlap-at-requires c κs = search needs
 returns : tie.Need-returns
 returns c = past-rows _ _ _ _ _ (c .before .before .if1 .taken) (c .before .if2 .taken) (c .overlap-at .ensures)
 
-sub-smaller : tie.Need-sub-smaller
-sub-smaller c = search needs
+sub-least : tie.Need-sub-least
+sub-least c = search needs
 
-smaller-requires : tie.Need-smaller-requires
-smaller-requires c κs = search needs
+least-requires : tie.Need-least-requires
+least-requires c κs = search needs
 
 overlap-at-requires-2 : tie.Need-overlap-at-requires-2
 overlap-at-requires-2 c κs = search needs
 
 returns-2 : tie.Need-returns-2
-returns-2 c = from-first _ _ _ _ _ _ (c .before .before .before .if1 .taken) (c .before .smaller .ensures) (c .overlap-at2 .ensures)
+returns-2 c = from-first _ _ _ _ _ _ (c .before .before .before .if1 .taken) (c .before .least .ensures) (c .overlap-at2 .ensures)
 
 sub-from : tie.Need-sub-from
 sub-from c = search needs
@@ -32,17 +32,17 @@ overlap-at-requires-3 c κs = search needs
 returns-3 : tie.Need-returns-3
 returns-3 c = past-incoming _ _ _ _ _ (c .before .before .if1 .left) (c .before .if3 .taken) (c .overlap-at3 .ensures)
 
-sub-smaller-2 : tie.Need-sub-smaller-2
-sub-smaller-2 c = search needs
+sub-least-2 : tie.Need-sub-least-2
+sub-least-2 c = search needs
 
-smaller-requires-2 : tie.Need-smaller-requires-2
-smaller-requires-2 c κs = search needs
+least-requires-2 : tie.Need-least-requires-2
+least-requires-2 c κs = search needs
 
 overlap-at-requires-4 : tie.Need-overlap-at-requires-4
 overlap-at-requires-4 c κs = search needs
 
 returns-4 : tie.Need-returns-4
-returns-4 c = from-own _ _ _ _ _ _ (c .before .before .before .if1 .left) (c .before .smaller2 .ensures) (c .overlap-at4 .ensures)
+returns-4 c = from-own _ _ _ _ _ _ (c .before .before .before .if1 .left) (c .before .least2 .ensures) (c .overlap-at4 .ensures)
 
 pub overlap-of-spec : {M : Type 1} → statement M
 overlap-of-spec =
@@ -50,14 +50,14 @@ overlap-of-spec =
     (tie.spec
     overlap-at-requires
     returns
-    sub-smaller
-    smaller-requires
+    sub-least
+    least-requires
     overlap-at-requires-2
     returns-2
     sub-from
     overlap-at-requires-3
     returns-3
-    sub-smaller-2
-    smaller-requires-2
+    sub-least-2
+    least-requires-2
     overlap-at-requires-4
     returns-4)

@@ -59,10 +59,10 @@ use Rattle.location_rules.proofs.Stop as S
 use Rattle.location_rules.proofs.Stop.Laws as S′
 use Rattle.location_rules.proofs.Fetched as Ft
 use Rattle.location_rules.proofs.Fetched.Laws as Ft′
-use Rattle.location_rules.proofs.smaller as sm
-use Rattle.location_rules.proofs.smaller.Symbol as sm-def
-use Rattle.location_rules.proofs.smaller.Symbol.{name as #smaller}
-use Rattle.location_rules.proofs.smaller.Met as sm-thm
+use Rattle.words.proofs.least as sm
+use Rattle.words.proofs.least.Symbol as sm-def
+use Rattle.words.proofs.least.Symbol.{name as #least}
+use Rattle.words.proofs.least.Met as sm-thm
 use Rattle.memtable.proofs.scan as sc
 use Rattle.memtable.proofs.scan.Symbol as sc-def
 use Rattle.memtable.proofs.scan.Symbol.{name as #scan}
@@ -86,8 +86,8 @@ stayed = (stay-none-slice (0 ∷ []) tt (plain (λ _. R)) yes, (stay-none (λ _.
 
 module _ {M : Type 1} (𝓤 : URA M) (H : Heap 𝓤) (A : Atoms 𝓤) (mem : Memory → SProp 𝓤) (run : Routine → Fun 𝓤) where
   -- the contracts that the proof cites
-  abbrev Smaller : Contract 𝓤
-  Smaller = tripleOf 𝓤 H A sm.signature (sm.spec 𝓤 H A mem run)
+  abbrev Least : Contract 𝓤
+  Least = tripleOf 𝓤 H A sm.signature (sm.spec 𝓤 H A mem run)
 
   abbrev Scan : Contract 𝓤
   Scan = tripleOf 𝓤 H A sc.signature (sc.spec 𝓤 H A mem run)
@@ -146,14 +146,14 @@ module _ {M : Type 1} (𝓤 : URA M) (H : Heap 𝓤) (A : Atoms 𝓤) (W : Given
   said-formed : (r : Bool) → ent 𝓤 (ensured 𝓤 H A wf.ended (wf.clauses 𝓤 H A mem run) (κ, tt) (y, (t, tt)) tt r) (fact 𝓤 (r ≡ wellFormed ys t))
   said-formed r = exE 𝓤 _ (λ ws. snd∗ 𝓤 (sem 𝓤 H A (lasts wf.ended (κ, tt) (y, (t, tt)) ws)) (fact 𝓤 (r ≡ wellFormed ys t)))
 
-  abbrev to-smaller : Smaller 𝓤 H A mem run .Ghost
-  to-smaller = ((tt, tt, tt, (t .count, (n, tt)), (vint w64 (t .count) ∷ [], (vint w64 n ∷ [], tt))), tt)
+  abbrev to-least : Least 𝓤 H A mem run .Ghost
+  to-least = ((tt, tt, tt, (t .count, (n, tt)), (vint w64 (t .count) ∷ [], (vint w64 n ∷ [], tt))), tt)
 
-  ask-smaller : ent 𝓤 (emp 𝓤) (Smaller 𝓤 H A mem run .pre to-smaller)
-  ask-smaller = qed W [] ∵ nothing ! $ owned ! usize (Is usize) (uint-makes 𝓤 H A W w64) n _ (refl, gy .0) $ fjoin ! $ owned ! usize (Is usize) (uint-makes 𝓤 H A W w64) (t .count) _ (refl, g-count) $ fjoin ! $ nothing ! $ join ! $ frame ! $ done !
+  ask-least : ent 𝓤 (emp 𝓤) (Least 𝓤 H A mem run .pre to-least)
+  ask-least = qed W [] ∵ nothing ! $ owned ! usize (Is usize) (uint-makes 𝓤 H A W w64) n _ (refl, gy .0) $ fjoin ! $ owned ! usize (Is usize) (uint-makes 𝓤 H A W w64) (t .count) _ (refl, g-count) $ fjoin ! $ nothing ! $ join ! $ frame ! $ done !
 
-  said-smaller : (r : ℕ) → ent 𝓤 (ensured 𝓤 H A sm.ended (sm.clauses 𝓤 H A mem run) tt (t .count, (n, tt)) tt r) (fact 𝓤 (r ≡ min (t .count) n))
-  said-smaller r = exE 𝓤 _ (λ ws. snd∗ 𝓤 (sem 𝓤 H A (lasts sm.ended tt (t .count, (n, tt)) ws)) (fact 𝓤 (r ≡ min (t .count) n)))
+  said-least : (r : ℕ) → ent 𝓤 (ensured 𝓤 H A sm.ended (sm.clauses 𝓤 H A mem run) tt (t .count, (n, tt)) tt r) (fact 𝓤 (r ≡ min (t .count) n))
+  said-least r = exE 𝓤 _ (λ ws. snd∗ 𝓤 (sem 𝓤 H A (lasts sm.ended tt (t .count, (n, tt)) ws)) (fact 𝓤 (r ≡ min (t .count) n)))
 
   module _ (lo hi : ℕ) (s : Stop) (v : Val) where
     abbrev to-scan : Scan 𝓤 H A mem run .Ghost
@@ -177,7 +177,7 @@ module _ {M : Type 1} (𝓤 : URA M) (H : Heap 𝓤) (A : Atoms 𝓤) (W : Given
     said-from : (r : Fetched) → ent 𝓤 (ensured 𝓤 H A rf.ended (rf.clauses 𝓤 H A mem run) tt (x, (t, (lo, (e, tt)))) tt r) (fact 𝓤 (r ≡ fetched x t (e - lo)))
     said-from r = exE 𝓤 _ (λ ws. snd∗ 𝓤 (sem 𝓤 H A (lasts rf.ended tt (x, (t, (lo, (e, tt)))) ws)) (fact 𝓤 (r ≡ fetched x t (e - lo))))
 
-  module _ (C : Calls 𝓤 H) (Λ : Loops 𝓤 H) (fm : FmC 𝓤 H (W .laws) C) (known-smaller : Triple 𝓤 (C #smaller) (Smaller 𝓤 H A mem run)) (known-scan : Triple 𝓤 (C #scan) (Scan 𝓤 H A mem run)) (known-formed : Triple 𝓤 (C #formed) (Formed 𝓤 H A mem run)) (known-from : Triple 𝓤 (C #from) (From 𝓤 H A mem run)) where
+  module _ (C : Calls 𝓤 H) (Λ : Loops 𝓤 H) (fm : FmC 𝓤 H (W .laws) C) (known-least : Triple 𝓤 (C #least) (Least 𝓤 H A mem run)) (known-scan : Triple 𝓤 (C #scan) (Scan 𝓤 H A mem run)) (known-formed : Triple 𝓤 (C #formed) (Formed 𝓤 H A mem run)) (known-from : Triple 𝓤 (C #from) (From 𝓤 H A mem run)) where
     walk : ent 𝓤 (onEntry 𝓤 H A f.signature (κ, tt) (q, tt) a at) (WpFn 𝓤 H C Λ code.function (vy ∷ valT t ∷ vint w64 gate ∷ []) Post)
     walk =
         qed W ((‵ (flft κ q) ⊛ ‵ ftrue) ∷ ‵ (owns (ShrSlice (named 0) κ R ∷ Tb.the-row ∷ u64 ∷ []) a at) ∷ []) ∵ enter ! C Λ code.function (vy ∷ valT t ∷ vint w64 gate ∷ []) _ $
@@ -188,10 +188,10 @@ module _ {M : Type 1} (𝓤 : URA M) (H : Heap 𝓤) (A : Atoms 𝓤) (W : Given
         calls-at ! fm (Formed 𝓤 H A mem run) known-formed to-formed (and-then ! (load ! (from ! (stop !)) (look ! 16 refl)) (and-then ! (load ! (from ! (stop !)) (look ! 14 refl)) (no-more !))) (λ u₀.
         use1 W (later (some (λ (x : Bool). ((‵ (flft κ q) ⊛ ‵ ftrue) ⊛ ‵ (Boolean .own x (u₀ ∷ []))) ⊛ raw (ensured 𝓤 H A wf.ended (wf.clauses 𝓤 H A mem run) (κ, tt) (y, (t, tt)) tt x)))) (id⊢ 𝓤 _) $ await ! tt $ pick ! (λ x.
         split ! $ move ! (1 ∷ []) $ use1 W (raw (fact 𝓤 (x ≡ wellFormed ys t))) (said-formed x) $ heard ! (x ≡ wellFormed ys t) (λ e₀. split ! $ move ! (1 ∷ []) $ peeks ! Boolean (Is Boolean) (shows 𝓤 H A Boolean) x (u₀ ∷ []) (λ i₀. land ! (from ! (stop !)) (init ! 11 refl (bool-lawful 𝓤 H A W .typed x _ i₀ .0)) $ drop ! $
-        rewrite ! 10 (λ (w : Val). ‵ (fat fullShare (tyAt body.locals 4) l₄ 0 w)) (ap only i₀) refl $ assigns ! (of-opd ! (load ! (from ! (fld ! refl (stop !))) (look-in ! 16 (sub ! 1 refl (whole !))))) (from ! (stop !)) (init ! 4 refl (tt, record { fits = gy .0 })) $ use0 W (raw (Smaller 𝓤 H A mem run .pre to-smaller)) ask-smaller $
-        calls-at ! fm (Smaller 𝓤 H A mem run) known-smaller to-smaller (and-then ! (load ! (from ! (fld ! refl (stop !))) (look-in ! 15 (sub ! 1 refl (whole !)))) (and-then ! (load ! (from ! (stop !)) (look ! 5 refl)) (no-more !))) (λ u.
+        rewrite ! 10 (λ (w : Val). ‵ (fat fullShare (tyAt body.locals 4) l₄ 0 w)) (ap only i₀) refl $ assigns ! (of-opd ! (load ! (from ! (fld ! refl (stop !))) (look-in ! 16 (sub ! 1 refl (whole !))))) (from ! (stop !)) (init ! 4 refl (tt, record { fits = gy .0 })) $ use0 W (raw (Least 𝓤 H A mem run .pre to-least)) ask-least $
+        calls-at ! fm (Least 𝓤 H A mem run) known-least to-least (and-then ! (load ! (from ! (fld ! refl (stop !))) (look-in ! 15 (sub ! 1 refl (whole !)))) (and-then ! (load ! (from ! (stop !)) (look ! 5 refl)) (no-more !))) (λ u.
         use1 W (later (some (λ (c : ℕ). (‵ ftrue ⊛ ‵ (usize .own c (u ∷ []))) ⊛ raw (ensured 𝓤 H A sm.ended (sm.clauses 𝓤 H A mem run) tt (t .count, (n, tt)) tt c)))) (id⊢ 𝓤 _) $ await ! tt $ pick ! (λ c.
-        split ! $ move ! (1 ∷ []) $ use1 W (raw (fact 𝓤 (c ≡ min (t .count) n))) (said-smaller c) $ heard ! (c ≡ min (t .count) n) (λ e₁. split ! $ drop ! $ peeks ! usize (Is usize) (shows 𝓤 H A usize) c (u ∷ []) (λ i₁. land ! (from ! (stop !)) (init ! 9 refl (uint-lawful 𝓤 H A W w64 .typed c _ i₁ .0)) $ drop ! $
+        split ! $ move ! (1 ∷ []) $ use1 W (raw (fact 𝓤 (c ≡ min (t .count) n))) (said-least c) $ heard ! (c ≡ min (t .count) n) (λ e₁. split ! $ drop ! $ peeks ! usize (Is usize) (shows 𝓤 H A usize) c (u ∷ []) (λ i₁. land ! (from ! (stop !)) (init ! 9 refl (uint-lawful 𝓤 H A W w64 .typed c _ i₁ .0)) $ drop ! $
         rewrite ! 8 (λ (w : Val). ‵ (fat fullShare (tyAt body.locals 5) l₅ 0 w)) (ap only (i₁ .0)) refl $
         -- the rows from the count on that are under the gate
         assigns ! (of-opd ! (load ! (from ! (fld ! refl (stop !))) (look-in ! 16 (sub ! 1 refl (whole !))))) (from ! (stop !)) (store ! 4 refl (tt, record { fits = gy .0 })) $
@@ -213,12 +213,12 @@ module _ {M : Type 1} (𝓤 : URA M) (H : Heap 𝓤) (A : Atoms 𝓤) (W : Given
         by ! (exits r w (fetched-by ys t gate x c e r e₀ e₁ e₂ e₃)))))))))))))))))))))))))))
 
 module _ {M : Type 1} (𝓤 : URA M) (H : Heap 𝓤) (A : Atoms 𝓤) (W : Given 𝓤 H A) (mem : Memory → SProp 𝓤) (run : Routine → Fun 𝓤) where
-  walks : (C : Calls 𝓤 H) (Λ : Loops 𝓤 H) → FmC 𝓤 H (W .laws) C → Triple 𝓤 (C #smaller) (Smaller 𝓤 H A mem run) → Triple 𝓤 (C #scan) (Scan 𝓤 H A mem run) → Triple 𝓤 (C #formed) (Formed 𝓤 H A mem run) → Triple 𝓤 (C #from) (From 𝓤 H A mem run) → Walks 𝓤 H A f.ended stayed (WpFn 𝓤 H C Λ code.function) (f.clauses 𝓤 H A mem run)
+  walks : (C : Calls 𝓤 H) (Λ : Loops 𝓤 H) → FmC 𝓤 H (W .laws) C → Triple 𝓤 (C #least) (Least 𝓤 H A mem run) → Triple 𝓤 (C #scan) (Scan 𝓤 H A mem run) → Triple 𝓤 (C #formed) (Formed 𝓤 H A mem run) → Triple 𝓤 (C #from) (From 𝓤 H A mem run) → Walks 𝓤 H A f.ended stayed (WpFn 𝓤 H C Λ code.function) (f.clauses 𝓤 H A mem run)
   walks C Λ fm k₁ k₂ k₃ k₄ = walked 𝓤 H A f.ended stayed (f.clauses 𝓤 H A mem run) (WpFn 𝓤 H C Λ code.function) (λ κs. (slice-vals, (LL.vals Tb.the-type Tb′.the-laws, (uint-vals w64, tt)))) (λ κs. (shr-slice-tells (named 0) (κs .0) R, (LL.tells Tb.the-type Tb′.the-laws, (uint-tells w64, tt))))
       (λ κs qs bounds a g are. via 𝓤 _ (fst∗ 𝓤 _ (emp 𝓤)) (walk 𝓤 H A W mem run (κs .0) (qs .0) (a .0 .ptr .0) (a .0 .ptr .1) (a .0 .name) (a .0 .now) (a .1 .0) (a .1 .1 .0) (are .0 .0 .1) (are .1 .0) (are .1 .1 .0 .1) C Λ fm k₁ k₂ k₃ k₄))
 
 meets : {M : Type 1} (𝓤 : URA M) (H : Heap 𝓤) (A : Atoms 𝓤) (W : Given 𝓤 H A) (mem : Memory → SProp 𝓤) (run : Routine → Fun 𝓤) (𝓣 : Tables 𝓤 H)
-    → Triple 𝓤 (𝓣 .C #smaller) (Smaller 𝓤 H A mem run) → Triple 𝓤 (𝓣 .C #scan) (Scan 𝓤 H A mem run) → Triple 𝓤 (𝓣 .C #formed) (Formed 𝓤 H A mem run) → Triple 𝓤 (𝓣 .C #from) (From 𝓤 H A mem run) → Meets 𝓤 H A f.signature (WpFn 𝓤 H (𝓣 .C) (𝓣 .Λ) code.function) (f.spec 𝓤 H A mem run)
+    → Triple 𝓤 (𝓣 .C #least) (Least 𝓤 H A mem run) → Triple 𝓤 (𝓣 .C #scan) (Scan 𝓤 H A mem run) → Triple 𝓤 (𝓣 .C #formed) (Formed 𝓤 H A mem run) → Triple 𝓤 (𝓣 .C #from) (From 𝓤 H A mem run) → Meets 𝓤 H A f.signature (WpFn 𝓤 H (𝓣 .C) (𝓣 .Λ) code.function) (f.spec 𝓤 H A mem run)
 meets 𝓤 H A W mem run 𝓣 k₁ k₂ k₃ k₄ = walk-meets 𝓤 H A f.ended stayed W (goes-none-slice 𝓤 H A W 1 (0 ∷ []) tt (plain (λ _. R)) yes, (goes-none 𝓤 H A W 1 (λ _. Tb.the-row) yes (λ κs x f. refl), (goes-none 𝓤 H A W 1 (λ _. u64) yes (λ κs x f. refl), tt)))
     (f.clauses 𝓤 H A mem run) (WpFn 𝓤 H (𝓣 .C) (𝓣 .Λ) code.function) (WpFn-mono 𝓤 H (W .laws) 𝓣 code.function) (walks 𝓤 H A W mem run (𝓣 .C) (𝓣 .Λ) (fmOf 𝓤 H (W .laws) 𝓣) k₁ k₂ k₃ k₄)
 
@@ -228,7 +228,7 @@ fetch-entry-indexes-before-spec 𝓤 H 𝓜 𝓖 𝓡 =
     entered 𝓤 H (tripleOf 𝓤 H (𝓖 .A) f.signature (f.spec 𝓤 H (𝓖 .A) (𝓜 .mem) (𝓡 .run)))
     (tables 𝓤 H 𝓜 𝓡 code.env .C) (tables 𝓤 H 𝓜 𝓡 code.env .Λ) #f code.function (code.unfolded 𝓤 H 𝓜 𝓡)
     (meets 𝓤 H (𝓖 .A) (givenOf 𝓤 H 𝓜 𝓖) (𝓜 .mem) (𝓡 .run) (tablesOf 𝓤 H 𝓜 (tables 𝓤 H 𝓜 𝓡 code.env))
-    (cited 𝓤 H (Smaller 𝓤 H (𝓖 .A) (𝓜 .mem) (𝓡 .run)) 𝓜 𝓡 code.env #smaller sm-def.routine code.calls-location-rules·smaller (sm-thm.met 𝓤 H 𝓜 𝓖 𝓡))
+    (cited 𝓤 H (Least 𝓤 H (𝓖 .A) (𝓜 .mem) (𝓡 .run)) 𝓜 𝓡 code.env #least sm-def.routine code.calls-words·least (sm-thm.met 𝓤 H 𝓜 𝓖 𝓡))
     (cited 𝓤 H (Scan 𝓤 H (𝓖 .A) (𝓜 .mem) (𝓡 .run)) 𝓜 𝓡 code.env #scan sc-def.routine code.calls-memtable·scan (sc-thm.met 𝓤 H 𝓜 𝓖 𝓡))
     (cited 𝓤 H (Formed 𝓤 H (𝓖 .A) (𝓜 .mem) (𝓡 .run)) 𝓜 𝓡 code.env #formed wf-def.routine code.calls-memtable·is-well-formed (wf-thm.met 𝓤 H 𝓜 𝓖 𝓡))
     (cited 𝓤 H (From 𝓤 H (𝓖 .A) (𝓜 .mem) (𝓡 .run)) 𝓜 𝓡 code.env #from rf-def.routine code.calls-location-rules·run-from (rf-thm.met 𝓤 H 𝓜 𝓖 𝓡)))
