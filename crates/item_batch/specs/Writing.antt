@@ -11,6 +11,7 @@ use Rattle.log_item.specs.Prefix.{bytesOf}
 use Rattle.log_item.specs.declared.LogItem.{LogItem}
 use Rattle.log_item.specs.declared.EntryIndex.{EntryIndex}
 use Rattle.item_writer.specs.Answers as item
+use Rattle.item_writer.specs.Each.{Each}
 use Rattle.item_writer.specs.Relocated.{itemAt, itemRows, spansOf, numbersOf, Small}
 use Rattle.list_writer.specs.declared.Encoded.{Encoded}
 use Rattle.list_writer.specs.Bytes.{itemsOf, lengthsOf, bodyBytes}
@@ -54,6 +55,5 @@ abbrev pub keysAndContents : List ℕ → List LogItem → List (List (List ℕ)
 keysAndContents s xs = map (λ (x : LogItem). map (bytesOf s) (spansOf (x .content))) xs
 
 -- the numbers of each item are below 2^64
-pub data AllSmall : List LogItem → Type 0 where
-  none : AllSmall []
-  one : {x : LogItem} {xs : List LogItem} → Small (x .«raft_group_id» ∷ numbersOf (x .content)) → AllSmall xs → AllSmall (x ∷ xs)
+abbrev pub AllSmall : List LogItem → Type 0
+AllSmall xs = Each (λ (x : LogItem). Small (x .«raft_group_id» ∷ numbersOf (x .content))) xs

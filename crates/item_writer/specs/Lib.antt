@@ -1,3 +1,4 @@
+pub mod Each
 pub mod Bytes
 pub mod Refusing
 pub mod Answers

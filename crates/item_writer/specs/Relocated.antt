@@ -18,6 +18,7 @@ use Rattle.log_item.specs.declared.LogItemContent.{LogItemContent}
 use Rattle.log_item.specs.declared.LogItemContent.the-variants as contents
 use Rattle.log_item.specs.declared.LogItem.{LogItem}
 use Rattle.log_item.specs.declared.EntryIndex.{EntryIndex}
+use Rattle.item_writer.specs.Each.{Each}
 use Rattle.item_writer.specs.Refusing.{contentInside}
 use Rattle.item_writer.specs.Answers.{sumOf, rowLengths}
 
@@ -74,9 +75,8 @@ numbersOf (contents.Kv k) = k .key .len ∷ lengthOf (k .op)
     lengthOf Del = []
 
 -- each is below 2^64
-pub data Small : List ℕ → Type 0 where
-  none : Small []
-  one : {n : ℕ} {ns : List ℕ} → n < 2 ^ 64 → Small ns → Small (n ∷ ns)
+abbrev pub Small : List ℕ → Type 0
+Small ns = Each (λ (n : ℕ). n < 2 ^ 64) ns
 
 -- What a writer can write: spans in the store, numbers of 64 bits, a length for each row, and tails within the ceiling.
 pub record Writable (s : List ℕ) (x : LogItem) (lengths : List ℕ) (t : ℕ) : Type 0 where

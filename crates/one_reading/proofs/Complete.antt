@@ -13,7 +13,8 @@ use Rattle.log_item.specs.declared.LogItem.{LogItem}
 use Rattle.log_item.specs.declared.EntryIndex.{EntryIndex}
 use Rattle.log_item.specs.Entries.{entriesOf, typeOf}
 use Rattle.log_item.specs.Got.{got}
-use Rattle.one_reading.specs.Limits.{Each, one, RowFits}
+use Rattle.item_writer.specs.Each.{Each, one}
+use Rattle.one_reading.specs.Limits.{RowFits}
 use Rattle.one_reading.specs.Spelling.{NumberIn, Spanned, spanned, Contents, no-entries, entries, clean, compact, put, delete, Tails, no-more, next, OneItem, item}
 use Rattle.one_reading.specs.Place.{At}
 use Rattle.log_item.specs.Reading.{span, command, putAt, keyValue, firstIndex, entryIndexes, content, head, tail, tails, oneItem}

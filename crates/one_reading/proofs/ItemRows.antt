@@ -8,8 +8,8 @@ use lib.ListN.{length}
 use Rattle.log_item.specs.declared.LogItem.{LogItem}
 use Rattle.log_item.specs.declared.EntryIndex.{EntryIndex}
 use Rattle.log_item.specs.Entries.{entriesOf}
-use Rattle.one_reading.specs.Limits.{Each, one}
-use Rattle.one_reading.specs.Limits as limits
+use Rattle.item_writer.specs.Each.{Each, one}
+use Rattle.item_writer.specs.Each as every
 use Rattle.one_reading.specs.Spelling.{Tails, no-more, next, OneItem, item}
 use Rattle.one_reading.specs.Rows.{Joined, Consecutive}
 use Rattle.one_reading.specs.Rows as lie
@@ -58,10 +58,10 @@ joined-rises (lie.Joined.then e h) = omega (arith, joined-rises h)
 module _ {P : EntryIndex → Type 0} where
   -- What each row of two lists has, each row of both together has.
   pub each-append : {a b : List EntryIndex} → Each P a → Each P b → Each P (a ++ b)
-  each-append limits.Each.none f = f
+  each-append every.Each.none f = f
   each-append (one h e) f = one h (each-append e f)
 
   -- What each row of two lists together has, each row of the one and of the other has.
   pub each-split : (a : List EntryIndex) {b : List EntryIndex} → Each P (a ++ b) → Each P a × Each P b
-  each-split [] e = (limits.Each.none, e)
+  each-split [] e = (every.Each.none, e)
   each-split (r ∷ a) (one h e) = let parts = each-split a e in (one h (parts .0), parts .1)

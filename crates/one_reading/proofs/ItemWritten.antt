@@ -13,8 +13,8 @@ use Rattle.numbers.specs.Shortest.{shortest}
 use Rattle.words.specs.Write.{placed}
 use Rattle.log_item.specs.Got.{got}
 use Rattle.log_item.specs.Entries.{entriesOf, typeOf}
-use Rattle.one_reading.specs.Limits.{Each, RowFits}
-use Rattle.one_reading.specs.Limits as limits
+use Rattle.item_writer.specs.Each.{Each, none, one}
+use Rattle.one_reading.specs.Limits.{RowFits}
 use Rattle.one_reading.specs.Spelling.{NumberIn, Spanned, spanned, Contents, no-entries, entries, clean, compact, put, delete, Tails, no-more, next, OneItem, item}
 use Rattle.one_reading.specs.Place.{At}
 use Rattle.log_item.specs.Prefix.{bytesOf}
@@ -38,7 +38,7 @@ use Rattle.log_item.specs.Prefix.{inside}
 use Rattle.item_writer.specs.Refusing.{opInside, contentInside, contentRefusal}
 use Rattle.refusal.specs.First.{firstOf}
 use Rattle.item_writer.specs.Answers.{sumOf, rowLengths, itemBytes, itemRefusal}
-use Rattle.item_writer.specs.Relocated.{spanAt, keyAt, stated, contentAt, itemAt, rowsFrom, itemRows, spansOf, numbersOf, Small, none, one, Writable}
+use Rattle.item_writer.specs.Relocated.{spanAt, keyAt, stated, contentAt, itemAt, rowsFrom, itemRows, spansOf, numbersOf, Small, Writable}
 use Rattle.item_writer.proofs.Lengths.{and-both, part-length, span-length}
 use Rattle.item_writer.proofs.Refusals.{untaken, taken, content-inside, content-allowed}
 use Rattle.item_writer.proofs.Tails.{tailsOf, sum-rises}
@@ -83,10 +83,10 @@ tails-written i t (n ∷ lengths) h =
 
 rows-fit : (i t : ℕ) (lengths : List ℕ) → i + length lengths ≤ 2 ^ 64 → sumOf t lengths ≤ 4294967295 → Each RowFits (rowsFrom i t lengths)
 unfolding sumOf rowsFrom
-rows-fit i t [] h g = limits.none
+rows-fit i t [] h g = none
 rows-fit i t (n ∷ lengths) h g =
     let fits : RowFits (record { index = i; «entry_offset» = t; «entry_len» = n }) = record { index = omega arith; tail = omega (arith, sum-rises (t + n) lengths) } in
-    limits.one fits (rows-fit (i + 1) (t + n) lengths (omega arith) g)
+    one fits (rows-fit (i + 1) (t + n) lengths (omega arith) g)
 
 -- ---- an item
 

@@ -11,8 +11,9 @@ use Rattle.log_item.specs.declared.Form.{Form}
 use Rattle.log_item.specs.declared.Form.the-variants.{Any}
 use Rattle.log_item.specs.declared.LogItem.{LogItem}
 use Rattle.log_item.specs.declared.EntryIndex.{EntryIndex}
-use Rattle.one_reading.specs.Limits.{Each, RowFits, Within}
-use Rattle.one_reading.specs.Limits as limits
+use Rattle.item_writer.specs.Each.{Each}
+use Rattle.item_writer.specs.Each as every
+use Rattle.one_reading.specs.Limits.{RowFits, Within}
 use Rattle.one_reading.specs.Spelling.{NumberIn, Items, end, then, Spells, list}
 use Rattle.one_reading.specs.Acceptable.{Begins}
 use Rattle.one_reading.specs.Rows.{Joined, Indexed}
@@ -66,7 +67,7 @@ module _ (form : Form) (s : List ℕ) (asks : Asks form s) where
   pub sound-items : (k i e t p : ℕ) → e ≤ 1024 → Accepts (λ xs rows u q. Found s (ItemsSpelled form k e t p xs rows u) p q) (items form s k i e t p)
   unfolding items
   sound-items zero i e t p small =
-      accepts (record { bytes = []; at = nothing p; has = record { spelled = end; each = limits.Each.none; few = omega arith; long = refl } })
+      accepts (record { bytes = []; at = nothing p; has = record { spelled = end; each = every.Each.none; few = omega arith; long = refl } })
   sound-items (suc k) i e t p small =
       in-front _ _ (sound-item form s asks e t p small) λ r a f.
       one-more _ _ (sound-items k (i + 1) (e + length (r .rows)) (r .total) a (f .has .few)) λ xs more u q g.

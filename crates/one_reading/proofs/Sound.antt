@@ -12,8 +12,9 @@ use Rattle.log_item.specs.declared.LogItemContent.the-variants as content
 use Rattle.log_item.specs.declared.LogItem.{LogItem}
 use Rattle.log_item.specs.declared.EntryIndex.{EntryIndex}
 use Rattle.log_item.specs.Entries.{entriesOf, typeOf}
-use Rattle.one_reading.specs.Limits.{Each, one, RowFits}
-use Rattle.one_reading.specs.Limits as limits
+use Rattle.item_writer.specs.Each.{Each, one}
+use Rattle.item_writer.specs.Each as every
+use Rattle.one_reading.specs.Limits.{RowFits}
 use Rattle.one_reading.specs.Spelling.{NumberIn, Spanned, spanned, Contents, no-entries, entries, clean, compact, put, delete, Tails, no-more, next, item}
 use Rattle.one_reading.specs.Place.{At, Found, Asks, ItemSpelled}
 use Rattle.log_item.specs.Reading.{span, command, putAt, keyValue, firstIndex, entryIndexes, head, tail, tails, oneItem}
@@ -87,7 +88,7 @@ module _ (form : Form) (s : List ℕ) (asks : Asks form s) where
   pub sound-tails : (n i t p : ℕ) → i + n ≤ 18446744073709551616 → Holds (λ r q. Found s (TailsSpelled form n i t r) p q) (tails form s n i t p)
   unfolding tails
   sound-tails zero i t p h =
-      holds (record { bytes = []; at = nothing p; has = record { tails = no-more; each = limits.Each.none } })
+      holds (record { bytes = []; at = nothing p; has = record { tails = no-more; each = every.Each.none } })
   sound-tails (suc n) i t p h =
       after (sound-tail t p) λ w a f.
       after (sound-tails n (i + 1) w a (omega arith)) λ r q g.

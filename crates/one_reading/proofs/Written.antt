@@ -20,8 +20,8 @@ use Rattle.words.specs.Byte.{Bytes}
 use Rattle.crc.proofs.Laws.{crc-lt}
 use Rattle.crc.proofs.Xor.{xor-cancel-l}
 use Rattle.log_item.specs.Entries.{entriesOf}
-use Rattle.one_reading.specs.Limits.{Each, RowFits, Within}
-use Rattle.one_reading.specs.Limits as limits
+use Rattle.item_writer.specs.Each.{Each, none, one}
+use Rattle.one_reading.specs.Limits.{RowFits, Within}
 use Rattle.one_reading.specs.Spelling.{NumberIn, Items, end, then, Spells, list}
 use Rattle.one_reading.specs.Place.{At}
 use Rattle.one_reading.specs.Encoding.{Encodes, writes, leaves}
@@ -37,7 +37,6 @@ use Rattle.one_reading.proofs.ItemRows.{each-append, item-length}
 use Rattle.one_reading.proofs.Sound.{sound-item}
 use Rattle.item_writer.specs.Refusing.{contentRefusal}
 use Rattle.item_writer.specs.Answers.{sumOf, rowLengths, itemBytes}
-use Rattle.item_writer.specs.Relocated as relocated
 use Rattle.item_writer.specs.Relocated.{stated, contentAt, itemAt, itemRows, numbersOf, Small, Writable}
 use Rattle.item_writer.proofs.Refusals.{content-inside, content-allowed}
 use Rattle.one_reading.proofs.ItemWritten.{written-item, read-item-at, spans-kept}
@@ -52,7 +51,7 @@ use Rattle.body_check.specs.Reading.{accepted, rejected}
 use Rattle.seal.specs.Seal.{sealCheck}
 use Rattle.body_check.specs.Body.{readBody}
 use Rattle.item_batch.specs.Writing as table
-use Rattle.item_batch.specs.Writing.{listed, BodyWritten, itemsAt, rowsAt, bodyItems, bodyRows, keysAndContents, AllSmall, none, one}
+use Rattle.item_batch.specs.Writing.{listed, BodyWritten, itemsAt, rowsAt, bodyItems, bodyRows, keysAndContents, AllSmall}
 use Rattle.one_reading.proofs.Listing.{spells-as, spells-some}
 use Rattle.one_reading.proofs.Bodies.{part-of, footer-of, complete-body}
 use Rattle.body_check.proofs.Bodies.{body-refused}
@@ -102,7 +101,7 @@ module _ (s : List ℕ) (checked : Bool) where
       × Each RowFits (rowsAt xs ns t)
       × (used + length (rowsAt xs ns t) ≤ 1024)
   unfolding itemsAt rowsAt itemsVerdict itemsBytes
-  items-written [] ns used k t u p none low small h = let e : t ≡ u = cc in rw e (end, limits.none, omega arith)
+  items-written [] ns used k t u p none low small h = let e : t ≡ u = cc in rw e (end, none, omega arith)
   items-written (x ∷ xs) ns used k t u p (one z zs) low small h =
       let f = items-fine s checked x xs ns used k t u small h in
       let n : ℕ = entriesOf (x .content) .count in
@@ -236,7 +235,7 @@ unfolding itemsOf numbersOf
 table-small t z = go (t .«item_count») (t .items) z
   where
     blank : Small (blankItem .«raft_group_id» ∷ numbersOf (blankItem .content))
-    blank = relocated.one (lit< tt) (relocated.one (lit< tt) (relocated.one (lit< tt) relocated.none))
+    blank = one (lit< tt) (one (lit< tt) (one (lit< tt) none))
 
     go : (n : ℕ) (xs : List LogItem) → AllSmall xs → AllSmall (firstRows blankItem n xs)
     go zero xs f = none

@@ -8,7 +8,8 @@ use Rattle.words.specs.Byte.{Bytes}
 use Rattle.log_item.specs.declared.Form.{Form}
 use Rattle.log_item.specs.declared.Form.the-variants.{Any, Plain}
 use Rattle.log_item.specs.Reading.{Read}
-use Rattle.one_reading.specs.Limits.{Each, RowFits}
+use Rattle.item_writer.specs.Each.{Each}
+use Rattle.one_reading.specs.Limits.{RowFits}
 use Rattle.one_reading.specs.Spelling.{NumberIn, OneItem}
 
 -- In s, the bytes stand from the place p up to the place q.
