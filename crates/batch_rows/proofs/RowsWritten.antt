@@ -8,9 +8,10 @@ use native.Mathlib.Omega.{arith}
 use lib.Dec.{eqb}
 use lib.ListN.{length}
 use borrow.Author.Tests.{eqb-true, eqb-false}
-use Rattle.list_writer.specs.declared.Measured.{Measured}
+use Rattle.list_measure.specs.declared.Measured.{Measured}
 use Rattle.list_writer.specs.declared.Encoded.{Encoded}
-use Rattle.list_writer.specs.Answers.{measureOf, encodedOf, laid}
+use Rattle.list_measure.specs.Answers.{measureOf}
+use Rattle.list_writer.specs.Answers.{encodedOf, laid}
 use Rattle.rows_writer.specs.Rows.{rowCount, rowItems, entryLengths, measureRows, rowsBytes}
 use Rattle.rows_writer.proofs.RowsMeasuring.{rows-accepted}
 use Rattle.log_batch.specs.Written.{framed, batchEncoded, FrontWritten}

@@ -14,8 +14,10 @@ use Rattle.item_writer.specs.Answers as item
 use Rattle.item_writer.specs.Each.{Each}
 use Rattle.item_writer.specs.Relocated.{itemAt, itemRows, spansOf, numbersOf, Small}
 use Rattle.list_writer.specs.declared.Encoded.{Encoded}
-use Rattle.list_writer.specs.Bytes.{itemsOf, lengthsOf, bodyBytes}
-use Rattle.list_writer.specs.Answers.{measureOf, encodedOf, laid}
+use Rattle.list_measure.specs.Bytes.{itemsOf, lengthsOf}
+use Rattle.list_writer.specs.Bytes.{bodyBytes}
+use Rattle.list_measure.specs.Answers.{measureOf}
+use Rattle.list_writer.specs.Answers.{encodedOf, laid}
 use Rattle.item_batch.specs.declared.LogItemBatch.{LogItemBatch}
 
 -- the items of a table, and the lengths of its entry rows

@@ -18,14 +18,16 @@ use Rattle.crc.specs.Crc.{crcOf}
 use Rattle.log_item.specs.declared.LogItem.{LogItem}
 use Rattle.item_writer.specs.Private.{Room, Stored}
 use Rattle.item_writer.proofs.Stores.{stored-at, stored-then, stored-length}
-use Rattle.list_writer.specs.declared.Measured.{Measured}
+use Rattle.list_measure.specs.declared.Measured.{Measured}
 use Rattle.list_writer.specs.declared.Encoded.{Encoded}
-use Rattle.list_writer.specs.Bytes.{itemsBytes, listBytes, footed, bodyBytes}
-use Rattle.list_writer.specs.Refusing.{Verdict, fine, refused, itemsVerdict, listVerdict}
-use Rattle.list_writer.specs.Answers.{measured, measuredOf, measureOf, encoded, encodedIn, encodedOf, laid}
+use Rattle.list_measure.specs.Bytes.{itemsBytes, listBytes}
+use Rattle.list_writer.specs.Bytes.{footed, bodyBytes}
+use Rattle.list_measure.specs.Refusing.{Verdict, fine, refused, itemsVerdict, listVerdict}
+use Rattle.list_measure.specs.Answers.{measured, measuredOf, measureOf}
+use Rattle.list_writer.specs.Answers.{encoded, encodedIn, encodedOf, laid}
 use Rattle.list_writer.specs.Pieces.{footerOf, footerNext, footerPlaced}
 use Rattle.list_writer.proofs.Pieces.{footer-stored}
-use Rattle.list_writer.proofs.Heads.{cond-fine}
+use Rattle.list_measure.proofs.Heads.{cond-fine}
 use Rattle.list_writer.proofs.Writing.{Writing, writing-start, writing-end}
 
 -- ---- what a length that is not 0 tells

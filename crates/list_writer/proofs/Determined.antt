@@ -3,14 +3,8 @@
 use mathlib.Core.Path.{_≡_, sym, _∙_}
 use denote.Ref.{now}
 use Rattle.one_answer.specs.OneAnswer.{OneAnswer}
-use Rattle.list_writer.proofs.measure.Kinds as measure-kinds
-use Rattle.list_writer.proofs.measure.Reads as measure-reads
 use Rattle.list_writer.proofs.encode.Kinds as encode-kinds
 use Rattle.list_writer.proofs.encode.Reads as encode-reads
-use Rattle.list_writer.proofs.finish.Kinds as finish-kinds
-use Rattle.list_writer.proofs.finish.Reads as finish-reads
-use Rattle.list_writer.proofs.refuse.Kinds as refuse-kinds
-use Rattle.list_writer.proofs.refuse.Reads as refuse-reads
 use Rattle.list_writer.proofs.placing.Kinds as placing-kinds
 use Rattle.list_writer.proofs.placing.Reads as placing-reads
 use Rattle.list_writer.proofs.write_head.Kinds as write-head-kinds
@@ -18,17 +12,8 @@ use Rattle.list_writer.proofs.write_head.Reads as write-head-reads
 use Rattle.list_writer.proofs.write_footer.Kinds as write-footer-kinds
 use Rattle.list_writer.proofs.write_footer.Reads as write-footer-reads
 
-pub measure : OneAnswer 1 measure-kinds.ps measure-kinds.r measure-reads.Post (λ κs x y s t. x ≡ y)
-measure κs a x y s t p q = p ∙ sym q
-
 pub encode : OneAnswer 2 encode-kinds.ps encode-kinds.r encode-reads.Post (λ κs x y s t. (x ≡ y) × (now (s .1 .1 .1 .1 .1 .1 .1 .0) ≡ now (t .1 .1 .1 .1 .1 .1 .1 .0)))
 encode κs a x y s t p q = let e : x ≡ y = p .0 ∙ sym (q .0) in (e, p .1 ∙ (rw e (sym (q .1))))
-
-pub finish : OneAnswer 0 finish-kinds.ps finish-kinds.r finish-reads.Post (λ κs x y s t. x ≡ y)
-finish κs a x y s t p q = p ∙ sym q
-
-pub refuse : OneAnswer 0 refuse-kinds.ps refuse-kinds.r refuse-reads.Post (λ κs x y s t. x ≡ y)
-refuse κs a x y s t p q = p ∙ sym q
 
 pub placing : OneAnswer 0 placing-kinds.ps placing-kinds.r placing-reads.Post (λ κs x y s t. x ≡ y)
 placing κs a x y s t p q = p ∙ sym q

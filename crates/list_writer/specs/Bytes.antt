@@ -1,43 +1,12 @@
--- The bytes that a writer writes for a list of items, and for a body: item count, items, footer.
+-- The bytes that a writer writes for a body: item count, items, footer.
 -- Assumes nothing.
-use Prim.Native.Nat.{ℕ, zero, suc, min}
-use mathlib.Core.List.{List, [], _∷_, _++_, map}
+use Prim.Native.Nat.{ℕ}
+use mathlib.Core.List.{List, _++_}
 use lib.Bits.{bitXor}
-use lib.ListN.{length, drop}
-use Rattle.numbers.specs.Shortest.{shortest}
 use Rattle.words.specs.Word.{littleEndianBytes}
 use Rattle.crc.specs.Crc.{crcOf}
-use Rattle.log_item.specs.Blank.{blankItem, blankEntry}
-use Rattle.log_item.specs.Entries.{entriesOf}
 use Rattle.log_item.specs.declared.LogItem.{LogItem}
-use Rattle.log_item.specs.declared.EntryIndex.{EntryIndex}
-use Rattle.item_writer.specs.Bytes.{headBytes, tailsBytes}
-use Rattle.item_writer.specs.Answers.{rowLengths}
-
--- the first n of a list, and d for each that it lacks, as reading outside an array would give
-abbrev pub firstRows : {A : Type 0} → A → ℕ → List A → List A
-firstRows d zero xs = []
-firstRows d (suc n) [] = d ∷ firstRows d n []
-firstRows d (suc n) (x ∷ xs) = x ∷ firstRows d n xs
-
--- the items of a table of 256 rows, as many as it says
-unfoldable pub itemsOf : List LogItem → ℕ → List LogItem
-itemsOf items n = firstRows blankItem n items
-
--- the lengths of the entry rows that are lent: at most the 1,024 of the table
-unfoldable pub lengthsOf : List EntryIndex → ℕ → List ℕ
-lengthsOf entries n = map (λ (r : EntryIndex). r .«entry_len») (firstRows blankEntry (min n 1024) entries)
-
--- items, each with the next of the lengths for its tails; the total t runs on
-unfoldable pub itemsBytes : List ℕ → List LogItem → List ℕ → ℕ → List ℕ
-itemsBytes s [] lengths t = []
-itemsBytes s (x ∷ xs) lengths t =
-    headBytes s x
-    ++ tailsBytes (rowLengths x lengths) t (λ u. itemsBytes s xs (drop (entriesOf (x .content) .count) lengths) u)
-
--- item count, items
-unfoldable pub listBytes : List ℕ → List LogItem → List ℕ → List ℕ
-listBytes s xs lengths = shortest (length xs) ++ itemsBytes s xs lengths 0
+use Rattle.list_measure.specs.Bytes.{listBytes}
 
 -- bytes and their footer: checksum XOR signature, little-endian
 unfoldable pub footed : ℕ → List ℕ → List ℕ

@@ -20,7 +20,8 @@ use Rattle.words.specs.Byte.{Bytes}
 use Rattle.crc.proofs.Laws.{crc-lt}
 use Rattle.log_item.specs.Got.{got}
 use Rattle.log_item.specs.declared.LogItem.{LogItem}
-use Rattle.list_writer.specs.Bytes.{itemsBytes, listBytes, footed, bodyBytes}
+use Rattle.list_measure.specs.Bytes.{itemsBytes, listBytes}
+use Rattle.list_writer.specs.Bytes.{footed, bodyBytes}
 use Rattle.seal.specs.Seal.{sealCheck, blockCheck, contentLength}
 use Rattle.one_reading.proofs.Bodies.{sealed-of}
 use Rattle.log_batch.specs.Header.{frame, header}

@@ -16,10 +16,11 @@ use Rattle.crc.specs.Crc.{crcOf}
 use Rattle.log_item.specs.declared.LogItem.{LogItem}
 use Rattle.item_writer.specs.Private.{Room, Stored}
 use Rattle.item_writer.proofs.Stores.{stored-then, stored-length, stored-same}
-use Rattle.list_writer.specs.declared.Measured.{Measured}
+use Rattle.list_measure.specs.declared.Measured.{Measured}
 use Rattle.list_writer.specs.declared.Encoded.{Encoded}
 use Rattle.list_writer.specs.Bytes.{bodyBytes}
-use Rattle.list_writer.specs.Answers.{measureOf, encoded, encodedOf, laid}
+use Rattle.list_measure.specs.Answers.{measureOf}
+use Rattle.list_writer.specs.Answers.{encoded, encodedOf, laid}
 use Rattle.list_writer.proofs.Bodies.{accepted, body-length}
 use Rattle.log_batch.specs.Written.{blockBytes, headerBytes, frontBytes, framed, batchEncoded, frontEncoded, FrontWritten, BatchWritten}
 use Rattle.log_batch.proofs.Planning.{empty-block, filled-block, block-empty, block-filled, block-small, front-length, body-small, planned}

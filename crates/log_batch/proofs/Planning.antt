@@ -13,11 +13,12 @@ use Rattle.words.specs.Word.{bigEndianBytes, littleEndianBytes}
 use Rattle.words.proofs.Words.{length-big, length-little}
 use Rattle.crc.specs.Crc.{crcOf}
 use Rattle.log_item.specs.declared.LogItem.{LogItem}
-use Rattle.list_writer.specs.declared.Measured.{Measured}
+use Rattle.list_measure.specs.declared.Measured.{Measured}
 use Rattle.list_writer.specs.declared.Encoded.{Encoded}
-use Rattle.list_writer.specs.Bytes.{listBytes}
-use Rattle.list_writer.specs.Refusing.{Verdict, fine, refused, listVerdict}
-use Rattle.list_writer.specs.Answers.{measured, measuredOf, measureOf, encoded}
+use Rattle.list_measure.specs.Bytes.{listBytes}
+use Rattle.list_measure.specs.Refusing.{Verdict, fine, refused, listVerdict}
+use Rattle.list_measure.specs.Answers.{measured, measuredOf, measureOf}
+use Rattle.list_writer.specs.Answers.{encoded}
 use Rattle.log_batch.specs.Written.{blockBytes, headerBytes, frontBytes, batchEncoded}
 
 -- ---- lengths

@@ -26,9 +26,11 @@ use Rattle.log_item.specs.declared.EntryIndex.{EntryIndex}
 use Rattle.log_item.specs.declared.Form.{Form}
 use Rattle.log_item.specs.declared.Form.the-variants.{Any, Plain}
 use Rattle.list_writer.specs.declared.Encoded.{Encoded}
-use Rattle.list_writer.specs.Bytes.{itemsBytes, listBytes, bodyBytes, itemsOf, footed}
-use Rattle.list_writer.specs.Refusing.{fine, itemsVerdict, listVerdict}
-use Rattle.list_writer.specs.Answers.{measuredOf, measureOf, encoded, laid, measured, encodedOf}
+use Rattle.list_measure.specs.Bytes.{itemsBytes, listBytes, itemsOf}
+use Rattle.list_writer.specs.Bytes.{bodyBytes, footed}
+use Rattle.list_measure.specs.Refusing.{fine, itemsVerdict, listVerdict}
+use Rattle.list_measure.specs.Answers.{measuredOf, measureOf, measured}
+use Rattle.list_writer.specs.Answers.{encoded, laid, encodedOf}
 use Rattle.body_check.specs.Reading.{accepted, rejected, Answer, readItems}
 use Rattle.body_check.specs.Body.{readBody}
 use Rattle.body_check.specs.declared.Wanted.the-variants.{Exactly}

@@ -9,10 +9,11 @@ use lib.ListN.{length}
 use Rattle.words.specs.Word.{bigEndianBytes, littleEndianBytes}
 use Rattle.crc.specs.Crc.{crcOf}
 use Rattle.log_item.specs.declared.LogItem.{LogItem}
-use Rattle.list_writer.specs.declared.Measured.{Measured}
+use Rattle.list_measure.specs.declared.Measured.{Measured}
 use Rattle.list_writer.specs.declared.Encoded.{Encoded}
 use Rattle.list_writer.specs.Bytes.{bodyBytes}
-use Rattle.list_writer.specs.Answers.{measureOf, encoded, laid}
+use Rattle.list_measure.specs.Answers.{measureOf}
+use Rattle.list_writer.specs.Answers.{encoded, laid}
 use Rattle.log_batch.specs.declared.LogBatch.{LogBatch}
 
 -- empty, or content and its unsigned checksum

@@ -15,12 +15,14 @@ use Rattle.log_item.specs.declared.LogItem.{LogItem}
 use Rattle.item_writer.specs.Bytes.{headBytes, tailsBytes}
 use Rattle.item_writer.specs.Refusing.{contentRefusal}
 use Rattle.item_writer.specs.Answers.{sumOf, rowLengths, itemBytes}
-use Rattle.list_writer.specs.declared.Measured.{Measured}
+use Rattle.list_measure.specs.declared.Measured.{Measured}
 use Rattle.list_writer.specs.declared.Encoded.{Encoded}
-use Rattle.list_writer.specs.Bytes.{itemsBytes, listBytes, bodyBytes}
-use Rattle.list_writer.specs.Refusing.{Verdict, fine, refused, unless, tailsVerdict, itemsVerdict, listVerdict}
-use Rattle.list_writer.specs.Answers.{measured, measuredOf, measureOf, encoded, encodedOf, laid}
-use Rattle.list_writer.proofs.Heads.{unless-fine, cond-fine}
+use Rattle.list_measure.specs.Bytes.{itemsBytes, listBytes}
+use Rattle.list_writer.specs.Bytes.{bodyBytes}
+use Rattle.list_measure.specs.Refusing.{Verdict, fine, refused, unless, tailsVerdict, itemsVerdict, listVerdict}
+use Rattle.list_measure.specs.Answers.{measured, measuredOf, measureOf}
+use Rattle.list_writer.specs.Answers.{encoded, encodedOf, laid}
+use Rattle.list_measure.proofs.Heads.{unless-fine, cond-fine}
 use Rattle.list_writer.proofs.Bodies.{accepted, body-length}
 use Rattle.one_reading.specs.Encoding.{Encodes, writes, leaves}
 

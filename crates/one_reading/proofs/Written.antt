@@ -42,9 +42,10 @@ use Rattle.item_writer.proofs.Refusals.{content-inside, content-allowed}
 use Rattle.one_reading.proofs.ItemWritten.{written-item, read-item-at, spans-kept}
 use Rattle.list_writer.specs.declared.Encoded.{Encoded}
 use Rattle.log_item.specs.Blank.{blankItem}
-use Rattle.list_writer.specs.Bytes.{firstRows, itemsOf, itemsBytes, listBytes, footed, bodyBytes}
-use Rattle.list_writer.specs.Refusing.{fine, itemsVerdict, listVerdict}
-use Rattle.list_writer.proofs.Heads.{cond-fine}
+use Rattle.list_measure.specs.Bytes.{firstRows, itemsOf, itemsBytes, listBytes}
+use Rattle.list_writer.specs.Bytes.{footed, bodyBytes}
+use Rattle.list_measure.specs.Refusing.{fine, itemsVerdict, listVerdict}
+use Rattle.list_measure.proofs.Heads.{cond-fine}
 use Rattle.one_reading.proofs.ListWritten.{items-split, items-fine, encodes}
 use Rattle.item_batch.specs.declared.LogItemBatch.{LogItemBatch}
 use Rattle.body_check.specs.Reading.{accepted, rejected}

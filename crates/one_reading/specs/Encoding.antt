@@ -8,7 +8,7 @@ use lib.ListN.{length, take, drop}
 use Rattle.log_item.specs.declared.LogItem.{LogItem}
 use Rattle.list_writer.specs.declared.Encoded.{Encoded}
 use Rattle.list_writer.specs.Bytes.{bodyBytes}
-use Rattle.list_writer.specs.Refusing.{fine, itemsVerdict}
+use Rattle.list_measure.specs.Refusing.{fine, itemsVerdict}
 
 -- The body stands at the place, and all else is as it was.
 pub record Written (s : List ℕ) (checked : Bool) (xs : List LogItem) (ns : List ℕ) (signature : ℕ) (out : List ℕ) (at long : ℕ) (later : List ℕ) : Type 0 where

@@ -10,10 +10,11 @@ use Rattle.log_item.specs.declared.LogItem.{LogItem}
 use Rattle.item_row.specs.declared.RowRead.{RowRead}
 use Rattle.item_row.specs.declared.RowRead.the-variants.{Item, Refused}
 use Rattle.item_row.specs.Row.{rowAt}
-use Rattle.list_writer.specs.declared.Measured.{Measured}
-use Rattle.list_writer.specs.Bytes.{listBytes, bodyBytes}
-use Rattle.list_writer.specs.Refusing.{Verdict, fine, refused, itemsVerdict}
-use Rattle.list_writer.specs.Answers.{measuredOf}
+use Rattle.list_measure.specs.declared.Measured.{Measured}
+use Rattle.list_measure.specs.Bytes.{listBytes}
+use Rattle.list_writer.specs.Bytes.{bodyBytes}
+use Rattle.list_measure.specs.Refusing.{Verdict, fine, refused, itemsVerdict}
+use Rattle.list_measure.specs.Answers.{measuredOf}
 
 -- how many rows of seven words there are
 abbrev pub rowCount : List ℕ → ℕ

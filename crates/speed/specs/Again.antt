@@ -6,7 +6,8 @@ use mathlib.Core.Bool.{false}
 use mathlib.Core.List.{List, [], _∷_}
 use Rattle.list_writer.specs.declared.Encoded.{Encoded}
 use Rattle.list_writer.specs.Bytes.{bodyBytes}
-use Rattle.list_writer.specs.Answers.{encoded, measureOf, encodedOf, laid}
+use Rattle.list_measure.specs.Answers.{measureOf}
+use Rattle.list_writer.specs.Answers.{encoded, encodedOf, laid}
 use Rattle.item_batch.specs.declared.LogItemBatch.{LogItemBatch}
 use Rattle.item_batch.specs.Writing.{listed, rowLengths}
 use Rattle.item_row.specs.Reply.{Reply, reply}

@@ -2,7 +2,7 @@
 -- Assumes nothing.
 use denote.Ref.{now}
 use Rattle.rows_writer.proofs.RowsMeasuring.{rows-many, rows-refused, bad-row, rows-end}
-use Rattle.list_writer.proofs.Measuring.{Measuring, measuring-start, measuring-row, row-refused, measuring-item, item-refused}
+use Rattle.list_measure.proofs.Measuring.{Measuring, measuring-start, measuring-row, row-refused, measuring-item, item-refused}
 use Rattle.rows_writer.proofs.RowItems.{items-few, row-there, row-item, lengths-length, length-at, words-there}
 use Rattle.rows_writer.specs.Rows.{rowCount, rowItems, entryLengths}
 use Rattle.numbers.specs.Shortest.{shortest}

@@ -1,6 +1,6 @@
 -- `log_batch::LogBatch::encode` meets its contract: the answer is decided first; behind header and block the body has room.
 -- Assumes nothing.
-use Rattle.list_writer.proofs.Tables.{items-length}
+use Rattle.list_measure.proofs.Tables.{items-length}
 use Rattle.log_batch.proofs.Framing.{batch-left, batch-behind, batch-stored}
 use borrow.Author.Needs.{needs}
 use Rattle.log_batch.proofs.LogBatch.encode.Statement.{statement}

@@ -1,6 +1,6 @@
 -- `log_batch::LogBatch::encode_unchecked` meets its contract, as `encode` does.
 -- Assumes nothing.
-use Rattle.list_writer.proofs.Tables.{items-length}
+use Rattle.list_measure.proofs.Tables.{items-length}
 use Rattle.log_batch.proofs.Framing.{batch-left, batch-behind, batch-stored}
 use borrow.Author.Needs.{needs}
 use Rattle.log_batch.proofs.LogBatch.encode_unchecked.Statement.{statement}

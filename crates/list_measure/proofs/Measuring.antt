@@ -18,11 +18,11 @@ use Rattle.item_writer.specs.Refusing.{contentRefusal}
 use Rattle.item_writer.specs.Answers.{capped, measureItem}
 use Rattle.item_writer.proofs.Refusals.{content-allowed}
 use Rattle.log_item.specs.Blank.{blankItem}
-use Rattle.list_writer.specs.Bytes.{itemsBytes, listBytes}
-use Rattle.list_writer.specs.Refusing.{fine, refused, unless, itemsVerdict, listVerdict}
-use Rattle.list_writer.specs.Answers.{measured, measuredOf, measureOf}
-use Rattle.list_writer.proofs.Heads.{head-fine, head-refused}
-use Rattle.list_writer.proofs.Rest.{restBytes, bytes-row, bytes-item, bytes-end, bytes-start, restVerdict, told-row, told-item, told-end, told-start}
+use Rattle.list_measure.specs.Bytes.{itemsBytes, listBytes}
+use Rattle.list_measure.specs.Refusing.{fine, refused, unless, itemsVerdict, listVerdict}
+use Rattle.list_measure.specs.Answers.{measured, measuredOf, measureOf}
+use Rattle.list_measure.proofs.Heads.{head-fine, head-refused}
+use Rattle.list_measure.proofs.Rest.{restBytes, bytes-row, bytes-item, bytes-end, bytes-start, restVerdict, told-row, told-item, told-end, told-start}
 
 -- A number up to the largest tail has at most ten bytes.
 pub number-short : (n : ℕ) → n ≤ 4294967295 → length (shortest n) ≤ 10

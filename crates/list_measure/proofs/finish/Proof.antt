@@ -1,10 +1,10 @@
--- `list_writer::finish` meets its contract.
+-- `list_measure::finish` meets its contract.
 -- Assumes nothing.
 use mathlib.Core.Path.{_∙_}
 use borrow.Author.Needs.{needs}
-use Rattle.list_writer.proofs.Measuring.{measured-22, measured-fine}
-use Rattle.list_writer.proofs.finish.Statement.{statement}
-use Rattle.list_writer.proofs.finish.Tie as tie
+use Rattle.list_measure.proofs.Measuring.{measured-22, measured-fine}
+use Rattle.list_measure.proofs.finish.Statement.{statement}
+use Rattle.list_measure.proofs.finish.Tie as tie
 
 refuse-requires : tie.Need-refuse-requires
 refuse-requires c κs = search needs

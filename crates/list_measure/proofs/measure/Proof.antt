@@ -1,4 +1,4 @@
--- `list_writer::measure` meets its contract. The loop's invariant, `Measuring`: the size so far and the verdict on what is left give those of
+-- `list_measure::measure` meets its contract. The loop's invariant, `Measuring`: the size so far and the verdict on what is left give those of
 -- the whole list. The measure is the rows that the items left could use, and the tails left.
 -- Assumes nothing.
 use Prim.Native.Nat.{ℕ, _≤_, _-_, _+_, _*_}
@@ -7,11 +7,11 @@ use native.Mathlib.Omega.{arith}
 use borrow.Author.Needs.{needs}
 use lib.ListN.{length}
 use Rattle.numbers.specs.Shortest.{shortest}
-use Rattle.list_writer.specs.Bytes.{itemsOf, lengthsOf}
-use Rattle.list_writer.proofs.Tables.{items-length, item-at, lengths-length, length-at}
-use Rattle.list_writer.proofs.Measuring.{too-many, measure-refused, Measuring, measuring-start, measuring-row, row-refused, measuring-item, item-refused, measuring-end}
-use Rattle.list_writer.proofs.measure.Statement.{statement}
-use Rattle.list_writer.proofs.measure.Tie as tie
+use Rattle.list_measure.specs.Bytes.{itemsOf, lengthsOf}
+use Rattle.list_measure.proofs.Tables.{items-length, item-at, lengths-length, length-at}
+use Rattle.list_measure.proofs.Measuring.{too-many, measure-refused, Measuring, measuring-start, measuring-row, row-refused, measuring-item, item-refused, measuring-end}
+use Rattle.list_measure.proofs.measure.Statement.{statement}
+use Rattle.list_measure.proofs.measure.Tie as tie
 
 abbrev Inv-loop : tie.InvT-loop
 Inv-loop item-count entry-count store checked items entries rows size₀ i₀ j₀ tails₀ total₀ size i j tails total =

@@ -15,8 +15,8 @@ use Rattle.log_item.specs.declared.LogItem.{LogItem}
 use Rattle.item_writer.specs.Bytes.{headBytes, tailsBytes}
 use Rattle.item_writer.specs.Refusing.{contentRefusal}
 use Rattle.log_item.specs.Blank.{blankItem}
-use Rattle.list_writer.specs.Bytes.{itemsBytes}
-use Rattle.list_writer.specs.Refusing.{Verdict, fine, refused, unless, tailsVerdict, itemsVerdict}
+use Rattle.list_measure.specs.Bytes.{itemsBytes}
+use Rattle.list_measure.specs.Refusing.{Verdict, fine, refused, unless, tailsVerdict, itemsVerdict}
 
 next-length : (ns : List ℕ) (j n : ℕ) → j < length ns → take (suc n) (drop j ns) ≡ getD ns j 0 ∷ take n (drop (j + 1) ns)
 next-length ns j n h = rw (add-one, drop-cons ns j 0)

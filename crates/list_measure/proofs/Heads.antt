@@ -12,7 +12,7 @@ use Rattle.item_writer.specs.declared.Head.the-variants.{Fine, Refused}
 use Rattle.item_writer.specs.Bytes.{headBytes}
 use Rattle.item_writer.specs.Refusing.{contentRefusal}
 use Rattle.item_writer.specs.Answers.{capped, headOf, measureItem}
-use Rattle.list_writer.specs.Refusing.{Verdict, fine, refused, unless}
+use Rattle.list_measure.specs.Refusing.{Verdict, fine, refused, unless}
 
 module _ (s : List ℕ) (checked : Bool) (used rows : ℕ) (x : LogItem) where
   pub head-fine : (a b : ℕ) → measureItem s checked used rows x ≡ Fine a b

@@ -8,7 +8,7 @@ use lib.ListN.{length, getD}
 use Rattle.log_item.specs.declared.LogItem.{LogItem}
 use Rattle.log_item.specs.declared.EntryIndex.{EntryIndex}
 use Rattle.log_item.specs.Blank.{blankItem, blankEntry}
-use Rattle.list_writer.specs.Bytes.{firstRows, itemsOf, lengthsOf}
+use Rattle.list_measure.specs.Bytes.{firstRows, itemsOf, lengthsOf}
 
 first-length : {A : Type 0} (d : A) (n : ℕ) (xs : List A) → length (firstRows d n xs) ≡ n
 first-length d zero xs = refl

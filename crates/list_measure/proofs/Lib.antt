@@ -1,0 +1,5 @@
+pub mod Tables
+pub mod Heads
+pub mod Rest
+pub mod Measuring
+pub mod Determined
