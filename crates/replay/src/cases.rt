@@ -3,7 +3,7 @@ use crate::batches;
 use crate::bodies;
 use crate::input;
 use crate::locations;
-use crate::numbers;
+use crate::number;
 use libc::STDIN_FILENO;
 use libc::STDOUT_FILENO;
 
@@ -86,9 +86,9 @@ fn more(n: u64) -> u64 {
 
 fn compared(line: &[u8]) -> Outcome {
     match input::kind(line) {
-        b'r' => told(numbers::read(line)),
-        b'n' => told(numbers::written(line)),
-        b'c' => told(numbers::checksum(line)),
+        b'r' => told(number::read(line)),
+        b'n' => told(number::written(line)),
+        b'c' => told(number::checksum(line)),
         b'h' => told(batches::header(line)),
         b'o' => told(bodies::one(line)),
         b'i' | b'f' => told(bodies::read(line)),

@@ -6,7 +6,7 @@ mod cases;
 mod input;
 mod items;
 mod locations;
-mod numbers;
+mod number;
 
 fn main() {
     cases::run();

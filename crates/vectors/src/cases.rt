@@ -25,7 +25,7 @@
 use crate::bodies;
 use crate::headers;
 use crate::input;
-use crate::numbers;
+use crate::number;
 use crate::rewrites;
 use crate::statuses;
 use crate::steps;
@@ -55,10 +55,10 @@ fn lines(text: &[u8]) {
 fn line(line: &[u8]) {
     match input::kind(line) {
         b'c' => sums::case(line),
-        b'n' => numbers::number(line),
-        b'r' => numbers::bytes(line),
-        b'b' => numbers::big(line),
-        b'l' => numbers::little(line),
+        b'n' => number::number(line),
+        b'r' => number::bytes(line),
+        b'b' => number::big(line),
+        b'l' => number::little(line),
         b'h' => headers::case(line),
         b'i' | b'f' | b'w' => bodies::case(line),
         b'p' => bodies::plain(line),

@@ -6,7 +6,7 @@ mod edits;
 mod headers;
 mod input;
 mod locations;
-mod numbers;
+mod number;
 mod rewrites;
 mod statuses;
 mod steps;

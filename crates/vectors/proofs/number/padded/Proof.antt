@@ -1,11 +1,11 @@
--- `vectors::numbers::padded` is safe and ends.
+-- `vectors::number::padded` is safe and ends.
 -- Assumes nothing.
 use Prim.Native.Nat.{_-_}
 use mathlib.Core.Path.{_≡_}
 use lib.ListN.{length}
 use borrow.Author.Needs.{needs}
-use Rattle.vectors.proofs.numbers.padded.Statement.{statement}
-use Rattle.vectors.proofs.numbers.padded.Tie as tie
+use Rattle.vectors.proofs.number.padded.Statement.{statement}
+use Rattle.vectors.proofs.number.padded.Tie as tie
 
 abbrev Inv-loop : tie.InvT-loop
 Inv-loop len buf₀ n₀ buf n = length buf ≡ 10
