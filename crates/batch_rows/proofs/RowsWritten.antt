@@ -14,10 +14,12 @@ use Rattle.list_measure.specs.Answers.{measureOf}
 use Rattle.list_writer.specs.Answers.{encodedOf, laid}
 use Rattle.rows_writer.specs.Rows.{rowCount, rowItems, entryLengths, measureRows, rowsBytes}
 use Rattle.rows_writer.proofs.RowsMeasuring.{rows-accepted}
-use Rattle.log_batch.specs.Written.{framed, batchEncoded, FrontWritten}
+use Rattle.batch_front.specs.Front.{batchEncoded, FrontWritten}
+use Rattle.log_batch.specs.Written.{framed}
 use Rattle.batch_rows.specs.Rows.{rowsEncoded, RowsWritten}
-use Rattle.log_batch.proofs.Planning.{body-small, planned}
-use Rattle.log_batch.proofs.Framing.{begun-told, begun-left, body-behind, batch-stored}
+use Rattle.batch_front.proofs.Planning.{body-small, planned}
+use Rattle.batch_front.proofs.Fronts.{begun-told, begun-left, body-behind}
+use Rattle.log_batch.proofs.Framing.{batch-stored}
 
 module _ (s : List ℕ) (checked : Bool) (items entries : List ℕ) {m : Measured} (same : m ≡ measureRows s checked items entries) where
   -- A body that is not refused is short enough for the sums behind it.

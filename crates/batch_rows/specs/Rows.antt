@@ -14,7 +14,8 @@ use Rattle.rows_writer.specs.Rows.{rowCount, measureRows, rowsBytes}
 use Rattle.rows_reader.specs.Lent.{RowsRead}
 use Rattle.batch_rows.specs.declared.BatchCheck.{BatchCheck}
 use Rattle.log_batch.specs.Batch.{sealedBatch, batchAnswer, bodyPlace, blockPlace}
-use Rattle.log_batch.specs.Written.{framed, batchEncoded}
+use Rattle.batch_front.specs.Front.{batchEncoded}
+use Rattle.log_batch.specs.Written.{framed}
 
 -- a place, stated where the batch is accepted
 abbrev pub placeIf : BodyCheck → Span → Span

@@ -78,7 +78,7 @@ pub fn write_rows(
     ensures { λ r. ⌜ RowsWritten checked (now (items .entry)) (now (entries .entry)) (now (store .entry)) (now (content .entry)) signature (now (out .entry)) r (now (out .exit)) ⌝ }
 {
     let m = rows_writer::measure_rows(items, entries, store, checked);
-    let r = LogBatch::begin(m, items.len() / 7, content, out);
+    let r = batch_front::begin(m, items.len() / 7, content, out);
     if r.length == 0 {
         return r;
     }

@@ -24,12 +24,13 @@ use Rattle.list_measure.specs.Bytes.{itemsBytes, listBytes}
 use Rattle.list_writer.specs.Bytes.{footed, bodyBytes}
 use Rattle.seal.specs.Seal.{sealCheck, blockCheck, contentLength}
 use Rattle.one_reading.proofs.Bodies.{sealed-of}
+use Rattle.batch_front.specs.Front.{blockBytes, headerBytes, frontBytes}
+use Rattle.batch_front.proofs.Planning.{filled-block, block-empty, block-filled, header-length, front-length}
 use Rattle.log_batch.specs.Header.{frame, header}
 use Rattle.log_batch.specs.Batch.{blockOf, bodyOf, sealedBatch}
-use Rattle.log_batch.specs.Written.{blockBytes, headerBytes, frontBytes, framed, frameOf}
+use Rattle.log_batch.specs.Written.{framed, frameOf}
 use Rattle.seal.proofs.Sealing.{block-none, block-some}
 use Rattle.log_batch.proofs.Frames.{frame-good, front-good, batch-good}
-use Rattle.log_batch.proofs.Planning.{filled-block, block-empty, block-filled, header-length, front-length}
 
 -- Bytes and their checksum XOR a signature are a right seal.
 seal-good : (bs : List ℕ) (signature : ℕ) → 0 < length bs → Bytes bs → signature < 2 ^ 32

@@ -14,8 +14,6 @@ use Rattle.log_batch.proofs.LogBatch.decode.Kinds as decode-kinds
 use Rattle.log_batch.proofs.LogBatch.decode.Reads as decode-reads
 use Rattle.log_batch.proofs.LogBatch.check_frame.Kinds as check-frame-kinds
 use Rattle.log_batch.proofs.LogBatch.check_frame.Reads as check-frame-reads
-use Rattle.log_batch.proofs.LogBatch.begin.Kinds as begin-kinds
-use Rattle.log_batch.proofs.LogBatch.begin.Reads as begin-reads
 use Rattle.log_batch.proofs.LogBatch.encode.Kinds as encode-kinds
 use Rattle.log_batch.proofs.LogBatch.encode.Reads as encode-reads
 use Rattle.log_batch.proofs.LogBatch.encode_unchecked.Kinds as encode-unchecked-kinds
@@ -39,9 +37,6 @@ decode κs a x y s t p q = p ∙ sym q
 
 pub check-frame : OneAnswer 1 check-frame-kinds.ps check-frame-kinds.r check-frame-reads.Post (λ κs x y s t. x ≡ y)
 check-frame κs a x y s t p q = header-same x y (p ∙ sym q)
-
-pub begin : OneAnswer 2 begin-kinds.ps begin-kinds.r begin-reads.Post (λ κs x y s t. (x ≡ y) × (now (s .1 .1 .1 .0) ≡ now (t .1 .1 .1 .0)))
-begin κs a x y s t p q = let e : x ≡ y = p .answer ∙ sym (q .answer) in (e, p .front ∙ (rw e (sym (q .front))))
 
 pub encode : OneAnswer 3 encode-kinds.ps encode-kinds.r encode-reads.Post (λ κs x y s t. (x ≡ y) × (now (s .1 .1 .1 .1 .0) ≡ now (t .1 .1 .1 .1 .0)))
 encode κs a x y s t p q = let e : x ≡ y = p .answer ∙ sym (q .answer) in (e, p .written ∙ (rw e (sym (q .written))))

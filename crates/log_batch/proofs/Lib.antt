@@ -1,5 +1,4 @@
 pub mod Frames
-pub mod Planning
 pub mod Framing
 pub mod Determined
 pub mod Again

@@ -54,12 +54,13 @@ use Rattle.one_reading.proofs.Bodies.{sound-body, complete-body, sound-plain, c
 use Rattle.one_reading.proofs.Written.{written-spelled, written-bytes, written-kept, read-back, other-signature, table-small, buffer-written, buffer-read-back}
 use Rattle.one_reading.specs.Encoding.{Encodes, writes, leaves}
 use Rattle.one_reading.proofs.ListWritten.{encodes}
+use Rattle.batch_front.specs.Front.{blockBytes, batchEncoded}
+use Rattle.batch_front.proofs.Planning.{planned, verdict-of, refused-length}
 use Rattle.log_batch.specs.declared.LogBatch.{LogBatch}
 use Rattle.log_batch.specs.Header.{header}
 use Rattle.log_batch.specs.Batch.{blockOf, bodyOf, sealedBatch, readBatch}
 use Rattle.log_batch.specs.Examples.{AllRight, table}
-use Rattle.log_batch.specs.Written.{blockBytes, framed, frameOf, batchEncoded, BatchWritten}
-use Rattle.log_batch.proofs.Planning.{planned, verdict-of, refused-length}
+use Rattle.log_batch.specs.Written.{framed, frameOf, BatchWritten}
 use Rattle.log_batch.proofs.Framing.{whole}
 use Rattle.log_batch.proofs.Again.{body-good, content-size, block-again, body-again, content-again, sealed-again}
 use Rattle.log_batch.proofs.Whole.{empty-refused, body-alone, accepted-batch, batch-accepted, past-same}

@@ -1,6 +1,7 @@
 // Whole batches, read and written: header, block and body. From log_batch.rs, LogBatch.
 //
-// Bodies and blocks are read in small crates below this one, and their functions have their names here too.
+// Bodies and blocks are read in small crates below this one, and their functions have their names here too. What stands before the body of a
+// batch that is written, batch_front writes.
 pub use body_check::BodyCheck;
 pub use body_check::PlainForm;
 pub use body_check::check;
@@ -11,17 +12,12 @@ pub use item_batch::read_items;
 pub use seal::check_block;
 ghost use mathlib.Core.Path.{_≡_};
 ghost use mathlib.Core.Bool.{true, false};
-ghost use Prim.Native.Nat.{_+_, _≤_, _<_};
-ghost use lib.ListN.{length};
 ghost use Rattle.log_batch.specs.Header.{frame, header, headerGot};
 ghost use Rattle.log_batch.specs.Batch.{frontBatch, sealedBatch, readBatch};
-ghost use Rattle.log_batch.specs.Written.{blockBytes, frontBytes, batchEncoded, FrontWritten, BatchWritten};
+ghost use Rattle.log_batch.specs.Written.{BatchWritten};
 ghost use Rattle.item_batch.specs.Writing.{listed, rowLengths};
-ghost use Rattle.words.specs.Write.{placed};
-ghost use Rattle.item_writer.specs.Private.{Room};
 use codec::U64Read;
 use list_writer::Encoded;
-use list_writer::Measured;
 use log_item::Span;
 
 // The frame of a batch, as its header states it.
@@ -120,23 +116,6 @@ impl LogBatch {
         }
     }
 
-    // Begins a whole batch whose body has this measure: decides every refusal, and where there is none writes header and block at the start
-    // of out; the body is to follow, and ends at the length that is answered. Else out is as it was. No body has more than 4294967295
-    // bytes: such a measure is a 22.
-    pub fn begin(m: Measured, items: usize, content: &[u8], out: &mut [u8]) -> Encoded
-        ensures { λ r. ⌜ FrontWritten m items (now (content .entry)) (now (out .entry)) r (now (out .exit)) ⌝ }
-    {
-        if 4294967295 < m.length {
-            return answer(refusal::OUTPUT_TOO_LONG, 0, 0);
-        }
-        let r = plan(m, items, content, out.len());
-        if r.length == 0 {
-            return r;
-        }
-        write_front(content, r.length, out);
-        r
-    }
-
     // Writes the table's items as a whole batch under a signature, from the start of out on, or leaves out as it was and says why. Of the
     // table only the items and the lengths of the entry rows count; `store` has the bytes that the items' spans lie in, `content` is the
     // block's. No items and no content: nothing is written, and the length is 0. A put whose key begins with the internal prefix is
@@ -155,7 +134,7 @@ impl LogBatch {
         let entries = table.entries;
         let rows = table.entry_count;
         let m = list_writer::measure(items, count, entries, rows, store, true);
-        let r = LogBatch::begin(m, count, content, out);
+        let r = batch_front::begin(m, count, content, out);
         if r.length == 0 {
             return r;
         }
@@ -179,7 +158,7 @@ impl LogBatch {
         let entries = table.entries;
         let rows = table.entry_count;
         let m = list_writer::measure(items, count, entries, rows, store, false);
-        let r = LogBatch::begin(m, count, content, out);
+        let r = batch_front::begin(m, count, content, out);
         if r.length == 0 {
             return r;
         }
@@ -197,69 +176,6 @@ impl LogBatch {
         );
         r
     }
-}
-
-// The answer to a batch whose body has this measure: every refusal is decided before a byte is written.
-fn plan(m: Measured, items: usize, content: &[u8], room: usize) -> Encoded
-    requires { ⌜ m .length ≤ 4294967295 ⌝ }
-    ensures { λ r. ⌜ r ≡ batchEncoded m items (now (content .entry)) room ⌝ }
-{
-    if items == 0 {
-        if content.len() == 0 {
-            return answer(refusal::NONE, 0, 0);
-        }
-    }
-    if m.length == 0 {
-        return answer(m.number, m.item, 0);
-    }
-    if 2147483647 < m.total {
-        return answer(refusal::OUTPUT_TOO_LONG, 0, 0);
-    }
-    if m.total as usize != content.len() {
-        return answer(refusal::BLOCK_DIFFERS, 0, 0);
-    }
-    let size = body_offset(content) + m.length;
-    if room < size {
-        return answer(refusal::OUTPUT_SHORT, 0, 0);
-    }
-    answer(refusal::NONE, 0, size)
-}
-
-fn answer(number: u32, item: usize, length: usize) -> Encoded
-    ensures { λ r. ⌜ r ≡ record { number = number; item = item; length = length } ⌝ }
-{
-    Encoded {
-        number,
-        item,
-        length,
-    }
-}
-
-// Where the body stands behind a block of this content.
-fn body_offset(content: &[u8]) -> usize
-    requires { ⌜ length (now content) ≤ 2147483647 ⌝ }
-    ensures { λ r. ⌜ r ≡ 16 + length (blockBytes (now (content .entry))) ⌝ }
-{
-    if content.len() == 0 {
-        return LogBatch::HEADER_LEN;
-    }
-    LogBatch::HEADER_LEN + content.len() + LogBatch::CHECKSUM_LEN
-}
-
-// Writes the header of a batch of this length, and the block.
-fn write_front(content: &[u8], len: usize, out: &mut [u8])
-    requires { ⌜ (length (now content) ≤ 2147483647) × (len < 72057594037927936) × Room (now out) 0 (frontBytes len (now content)) ⌝ }
-    ensures { λ r. ⌜ now (out .exit) ≡ placed (now (out .entry)) 0 (frontBytes len (now (content .entry))) ⌝ }
-{
-    let start = LogBatch::HEADER_LEN;
-    let offset = body_offset(content);
-    codec::encode_u64(len as u64 * 256, out, 0);
-    codec::encode_u64(offset as u64, out, 8);
-    if content.len() == 0 {
-        return;
-    }
-    codec::write_bytes(content, out, start);
-    codec::encode_u32_le(crc::crc32(content), out, start + content.len());
 }
 
 // What the two words of a header state.

@@ -1,11 +1,11 @@
--- `log_batch::plan` meets its contract: a law for each way out.
+-- `batch_front::plan` meets its contract: a law for each way out.
 -- Assumes nothing.
 use mathlib.Core.Logic.{⊎-elim, inl, inr}
 use native.Mathlib.Omega.{arith}
-use Rattle.log_batch.proofs.Planning.{nothing, refused-body, refused-22, refused-20, refused-21, written-whole, block-small}
+use Rattle.batch_front.proofs.Planning.{nothing, refused-body, refused-22, refused-20, refused-21, written-whole, block-small}
 use borrow.Author.Needs.{needs}
-use Rattle.log_batch.proofs.plan.Statement.{statement}
-use Rattle.log_batch.proofs.plan.Tie as tie
+use Rattle.batch_front.proofs.plan.Statement.{statement}
+use Rattle.batch_front.proofs.plan.Tie as tie
 
 answer-requires : tie.Need-answer-requires
 answer-requires c κs = search needs

@@ -1,9 +1,9 @@
--- `log_batch::write_front` meets its contract: the two words, then the content and its checksum where there is content.
+-- `batch_front::write_front` meets its contract: the two words, then the content and its checksum where there is content.
 -- Assumes nothing.
-use Rattle.log_batch.proofs.Framing.{front-empty, front-filled}
+use Rattle.batch_front.proofs.Fronts.{front-empty, front-filled}
 use borrow.Author.Needs.{needs}
-use Rattle.log_batch.proofs.write_front.Statement.{statement}
-use Rattle.log_batch.proofs.write_front.Tie as tie
+use Rattle.batch_front.proofs.write_front.Statement.{statement}
+use Rattle.batch_front.proofs.write_front.Tie as tie
 
 body-offset-requires : tie.Need-body-offset-requires
 body-offset-requires c κs = search needs

@@ -1,9 +1,9 @@
--- `log_batch::LogBatch::begin` meets its contract: the answer is decided first; a batch with a length has room for header and block.
+-- `batch_front::begin` meets its contract: the answer is decided first; a batch with a length has room for header and block.
 -- Assumes nothing.
-use Rattle.log_batch.proofs.Framing.{begun-long, begun-none, front-asked, begun-some}
+use Rattle.batch_front.proofs.Fronts.{begun-long, begun-none, front-asked, begun-some}
 use borrow.Author.Needs.{needs}
-use Rattle.log_batch.proofs.LogBatch.begin.Statement.{statement}
-use Rattle.log_batch.proofs.LogBatch.begin.Tie as tie
+use Rattle.batch_front.proofs.begin.Statement.{statement}
+use Rattle.batch_front.proofs.begin.Tie as tie
 
 answer-requires : tie.Need-answer-requires
 answer-requires c κs = search needs

@@ -19,7 +19,7 @@ use Rattle.list_measure.specs.Bytes.{listBytes}
 use Rattle.list_measure.specs.Refusing.{Verdict, fine, refused, listVerdict}
 use Rattle.list_measure.specs.Answers.{measured, measuredOf, measureOf}
 use Rattle.list_writer.specs.Answers.{encoded}
-use Rattle.log_batch.specs.Written.{blockBytes, headerBytes, frontBytes, batchEncoded}
+use Rattle.batch_front.specs.Front.{blockBytes, headerBytes, frontBytes, batchEncoded}
 
 -- ---- lengths
 

@@ -1,9 +1,9 @@
--- `log_batch::body_offset` meets its contract.
+-- `batch_front::body_offset` meets its contract.
 -- Assumes nothing.
-use Rattle.log_batch.proofs.Planning.{block-empty, block-filled}
+use Rattle.batch_front.proofs.Planning.{block-empty, block-filled}
 use borrow.Author.Needs.{needs}
-use Rattle.log_batch.proofs.body_offset.Statement.{statement}
-use Rattle.log_batch.proofs.body_offset.Tie as tie
+use Rattle.batch_front.proofs.body_offset.Statement.{statement}
+use Rattle.batch_front.proofs.body_offset.Tie as tie
 
 returns : tie.Need-returns
 returns c = block-empty _ (c .if1 .taken)
