@@ -130,11 +130,14 @@ pub fn nth(body: &[u8], signature: u32, k: usize) -> Next
 {
     let mut reader = ItemReader::open(body, signature);
     let mut i = 0;
-    while i < k {
-        reader.next();
-        i += 1;
+    loop {
+        let answer = reader.next();
+        if i < k {
+            i += 1;
+        } else {
+            return answer;
+        }
     }
-    reader.next()
 }
 
 // The next of an item's rows, in the body that the item was read from, footer included: first with the rows that came with the item,
