@@ -124,7 +124,7 @@ impl<'a> ItemReader<'a> {
 }
 
 // What call number k of `next`, counted from 0, answers on a reader opened on the body under the signature. It takes no reader, so that
-// whoever calls it needs no walk by hand.
+// whoever calls it needs no walk by hand. `next` is called at one place, so that it is compiled in line.
 pub fn nth(body: &[u8], signature: u32, k: usize) -> Next
     ensures { λ r. ⌜ r ≡ nthOf (opened (body .entry) signature) k ⌝ }
 {
