@@ -124,17 +124,20 @@ impl<'a> ItemReader<'a> {
 }
 
 // What call number k of `next`, counted from 0, answers on a reader opened on the body under the signature. It takes no reader, so that
-// whoever calls it needs no walk by hand.
+// whoever calls it needs no walk by hand. `next` is called at one place, so that it is compiled in line.
 pub fn nth(body: &[u8], signature: u32, k: usize) -> Next
     ensures { λ r. ⌜ r ≡ nthOf (opened (body .entry) signature) k ⌝ }
 {
     let mut reader = ItemReader::open(body, signature);
     let mut i = 0;
-    while i < k {
-        reader.next();
-        i += 1;
+    loop {
+        let answer = reader.next();
+        if i < k {
+            i += 1;
+        } else {
+            return answer;
+        }
     }
-    reader.next()
 }
 
 // The next of an item's rows, in the body that the item was read from, footer included: first with the rows that came with the item,

@@ -93,8 +93,21 @@ fn fill(buf: &[u8], items: &mut [u64], entries: &mut [u64])
     let mut total: u32 = 0;
     let mut tails: usize = 0;
     let mut index: u64 = 0;
-    loop {
-        if 0 < tails {
+    while i < count {
+        match LogItem::decode_head(buf, at, j, Form::Any) {
+            HeadRead::Refused(_) => {
+                return;
+            }
+            HeadRead::Done { item, next } => {
+                let listed = item.entries();
+                put_item(item, items, i * 7);
+                i += 1;
+                at = next;
+                tails = listed.count;
+                index = listed.first_index;
+            }
+        }
+        while 0 < tails {
             match EntryIndexes::decode_tail(buf, at, total, Form::Any) {
                 TailRead::Refused(_) => {
                     return;
@@ -108,22 +121,6 @@ fn fill(buf: &[u8], items: &mut [u64], entries: &mut [u64])
                     index = std::num::wrapping_add_u64(index, 1);
                 }
             }
-        } else if i < count {
-            match LogItem::decode_head(buf, at, j, Form::Any) {
-                HeadRead::Refused(_) => {
-                    return;
-                }
-                HeadRead::Done { item, next } => {
-                    let listed = item.entries();
-                    put_item(item, items, i * 7);
-                    i += 1;
-                    at = next;
-                    tails = listed.count;
-                    index = listed.first_index;
-                }
-            }
-        } else {
-            return;
         }
     }
 }

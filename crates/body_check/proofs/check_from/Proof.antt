@@ -17,8 +17,8 @@ abbrev μ-loop : tie.MeasureT-loop
 loop-holds : tie.Need-loop-holds Inv-loop μ-loop
 loop-holds c = left-start _ _ _ _
 
-decode-form-requires : tie.Need-decode-form-requires Inv-loop μ-loop
-decode-form-requires c κs = search needs
+pass-item-requires : tie.Need-pass-item-requires Inv-loop μ-loop
+pass-item-requires c κs = search needs
 
 enum-known-next : tie.Need-enum-known-next Inv-loop μ-loop
 enum-known-next c = search needs
@@ -30,13 +30,13 @@ loop-less : tie.Need-loop-less Inv-loop μ-loop
 loop-less c = search needs
 
 loop-again : tie.Need-loop-again Inv-loop μ-loop
-loop-again c = left-more _ _ (c .before .before .before .before .before .loop .inv) (c .before .before .before .before .loop-test .taken) (learnt itemGot (c .before .before .before .decode-form .ensures) (c .before .next .given .1))
+loop-again c = left-more _ _ (c .before .before .before .before .before .loop .inv) (c .before .before .before .before .loop-test .taken) (learnt itemGot (c .before .before .before .pass-item .ensures) (c .before .next .given .1))
 
 enum-known-number : tie.Need-enum-known-number Inv-loop μ-loop
 enum-known-number c = search needs
 
 returns : tie.Need-returns Inv-loop μ-loop
-returns c = left-refused _ _ (c .before .before .before .before .before .loop .inv) (c .before .before .before .before .loop-test .taken) (learnt itemGot (c .before .before .before .decode-form .ensures) (c .before .number .given .1))
+returns c = left-refused _ _ (c .before .before .before .before .before .loop .inv) (c .before .before .before .before .loop-test .taken) (learnt itemGot (c .before .before .before .pass-item .ensures) (c .before .number .given .1))
 
 returns-2 : tie.Need-returns-2 Inv-loop μ-loop
 returns-2 c = left-end _ _ (c .before .loop .inv) (c .loop-test .left)
@@ -48,7 +48,7 @@ check-from-spec =
     Inv-loop
     μ-loop
     loop-holds
-    decode-form-requires
+    pass-item-requires
     enum-known-next
     add-i
     loop-less

@@ -1,7 +1,7 @@
--- `item_reader::nth` meets its contract: a walk of its MIR, by hand. The reader is made in a local, and lent to `next` in each turn and
--- once more after the loop (Lent.antt).
+-- `item_reader::nth` meets its contract: a walk of its MIR, by hand. The reader is made in a local, and lent to `next` in each turn
+-- (Lent.antt).
 --     Γ i      the context where i calls are done: the local reader, then the locals that a turn touches, then what no turn touches
---     more     a turn with one call.        ends      the turn that leaves the loop, and the last call.        walk      the MIR up to the loop
+--     more     a turn that goes on after its call.        ends      the turn that returns what its call answers.        walk      the MIR up to the loop
 -- Assumes nothing.
 use mathlib.Core.Path.{_≡_, refl, ap, subst, _∙_}
 use Prim.Native.Nat.{ℕ, suc, _+_, _<_, _^_}
@@ -26,7 +26,7 @@ use contract.Lifetimes.{Lfts}
 use contract.Monad.{Fun, fact}
 use contract.Running.{givenOf, tables, tablesOf}
 use types.Kit.{Given, Item, ‵, raw, _⊛_, ⋆, anyQ, atRet, some, later, _$_, _∵_, !, qed, by, move, keep, drop, use1, use2, use3, split, join, pick, rewrite, fsplit, fjoin, suffices, frame, await, done}
-use types.Run.{look, init, store, forget, stop, from, load, lit, addr, of-opd, bin, assigns, assigns-last, stays, leaves-loop, and-then, no-more, land, returns, enter, alloc1, alloc0, params1, pass1, pass0, free1, free0, exec}
+use types.Run.{look, init, store, forget, stop, from, load, lit, addr, of-opd, bin, assigns, assigns-last, branches, returns-within, and-then, no-more, land, enter, alloc1, alloc0, params1, pass1, pass0, free1, free0, exec}
 use sound.WpLaws.{FmC, fmOf, WpFn-mono}
 use denote.RattleType.{RattleType, owns}
 use denote.Laws.{Is, shows}
@@ -128,9 +128,9 @@ module _ {M : Type 1} (𝓤 : URA M) (H : Heap 𝓤) (A : Atoms 𝓤) (W : Given
   said-open r = exE 𝓤 _ (λ ws. snd∗ 𝓤 (sem 𝓤 H A (lasts op.ended (κ, tt) (s, (g, tt)) ws)) (fact 𝓤 (r ≡ opened s g)))
 
   -- ---- from the loop on, with the reader x in its local
-  module _ (𝓣 : Tables 𝓤 H) (fm : FmC 𝓤 H (W .laws) (𝓣 .C)) (known : Triple 𝓤 (𝓣 .C #next) (lent.Next 𝓤 H A at-mem run)) (x : ItemReader) (is-x : x ≡ opened s g) (l₀ l₁ l₂ l₃ l₄ l₅ l₆ l₇ l₈ l₉ l₁₀ : ℕ) where
+  module _ (𝓣 : Tables 𝓤 H) (fm : FmC 𝓤 H (W .laws) (𝓣 .C)) (known : Triple 𝓤 (𝓣 .C #next) (lent.Next 𝓤 H A at-mem run)) (x : ItemReader) (is-x : x ≡ opened s g) (l₀ l₁ l₂ l₃ l₄ l₅ l₆ l₇ l₈ l₉ : ℕ) where
     abbrev En : Env 𝓤 H
-    En = (tyAt body.locals 0, l₀) ∷ (tyAt body.locals 1, l₁) ∷ (tyAt body.locals 2, l₂) ∷ (tyAt body.locals 3, l₃) ∷ (tyAt body.locals 4, l₄) ∷ (tyAt body.locals 5, l₅) ∷ (tyAt body.locals 6, l₆) ∷ (tyAt body.locals 7, l₇) ∷ (tyAt body.locals 8, l₈) ∷ (tyAt body.locals 9, l₉) ∷ (tyAt body.locals 10, l₁₀) ∷ []
+    En = (tyAt body.locals 0, l₀) ∷ (tyAt body.locals 1, l₁) ∷ (tyAt body.locals 2, l₂) ∷ (tyAt body.locals 3, l₃) ∷ (tyAt body.locals 4, l₄) ∷ (tyAt body.locals 5, l₅) ∷ (tyAt body.locals 6, l₆) ∷ (tyAt body.locals 7, l₇) ∷ (tyAt body.locals 8, l₈) ∷ (tyAt body.locals 9, l₉) ∷ []
 
     -- the reader after i calls, in its local
     abbrev rd : ℕ → ItemReader
@@ -166,62 +166,67 @@ module _ {M : Type 1} (𝓤 : URA M) (H : Heap 𝓤) (A : Atoms 𝓤) (W : Given
 
     -- what no turn touches: k, the parameters' locals, the rest's, what the body owns, and that each local dies
     abbrev Frame : List (Item 𝓤)
-    Frame = ‵ (fat fullShare (tyAt body.locals 3) l₃ 0 (vint w64 k)) ∷ ‵ (fat fullShare (tyAt body.locals 1) l₁ 0 v) ∷ ‵ (fat fullShare (tyAt body.locals 2) l₂ 0 (vint w32 g)) ∷ ‵ (froom (tyAt body.locals 6) l₆ 0) ∷ ‵ (froom (tyAt body.locals 0) l₀ 0) ∷ ‵ OwnS
-        ∷ ‵ (fdies (tyAt body.locals 0) l₀) ∷ ‵ (fdies (tyAt body.locals 1) l₁) ∷ ‵ (fdies (tyAt body.locals 2) l₂) ∷ ‵ (fdies (tyAt body.locals 3) l₃) ∷ ‵ (fdies (tyAt body.locals 4) l₄) ∷ ‵ (fdies (tyAt body.locals 5) l₅) ∷ ‵ (fdies (tyAt body.locals 6) l₆) ∷ ‵ (fdies (tyAt body.locals 7) l₇) ∷ ‵ (fdies (tyAt body.locals 8) l₈) ∷ ‵ (fdies (tyAt body.locals 9) l₉) ∷ ‵ (fdies (tyAt body.locals 10) l₁₀) ∷ []
+    Frame = ‵ (fat fullShare (tyAt body.locals 3) l₃ 0 (vint w64 k)) ∷ ‵ (fat fullShare (tyAt body.locals 1) l₁ 0 v) ∷ ‵ (fat fullShare (tyAt body.locals 2) l₂ 0 (vint w32 g)) ∷ ‵ (froom (tyAt body.locals 7) l₇ 0) ∷ ‵ (froom (tyAt body.locals 0) l₀ 0) ∷ ‵ OwnS
+        ∷ ‵ (fdies (tyAt body.locals 0) l₀) ∷ ‵ (fdies (tyAt body.locals 1) l₁) ∷ ‵ (fdies (tyAt body.locals 2) l₂) ∷ ‵ (fdies (tyAt body.locals 3) l₃) ∷ ‵ (fdies (tyAt body.locals 4) l₄) ∷ ‵ (fdies (tyAt body.locals 5) l₅) ∷ ‵ (fdies (tyAt body.locals 6) l₆) ∷ ‵ (fdies (tyAt body.locals 7) l₇) ∷ ‵ (fdies (tyAt body.locals 8) l₈) ∷ ‵ (fdies (tyAt body.locals 9) l₉) ∷ []
 
     abbrev Γ : ℕ → List (Item 𝓤)
-    Γ i = ‵ (Cell (rd i)) ∷ ‵ (Own (rd i)) ∷ ‵ (flft κ q) ∷ ‵ (fat fullShare word l₅ 0 (vint w64 i)) ∷ ‵ (froom (tyAt body.locals 7) l₇ 0) ∷ ‵ (froom (tyAt body.locals 8) l₈ 0) ∷ ‵ (froom (tyAt body.locals 9) l₉ 0) ∷ ‵ (froom (tyAt body.locals 10) l₁₀ 0) ∷ Frame
+    Γ i = ‵ (Cell (rd i)) ∷ ‵ (Own (rd i)) ∷ ‵ (flft κ q) ∷ ‵ (fat fullShare word l₅ 0 (vint w64 i)) ∷ ‵ (froom (tyAt body.locals 6) l₆ 0) ∷ ‵ (froom (tyAt body.locals 8) l₈ 0) ∷ ‵ (froom (tyAt body.locals 9) l₉ 0) ∷ Frame
 
     -- when the loop is left, the rest of the body runs
     abbrev Left : Out → SProp 𝓤
     Left = afterBlock 𝓤 H (afterSeq 𝓤 H (Wp 𝓤 H (𝓣 .C) (𝓣 .Λ) En body.t-5 (atReturn 𝓤 H En Post)) (atReturn 𝓤 H En Post))
 
-    -- a turn with one call
+    -- a turn that goes on after its call
     more : (i : ℕ) (X : SProp 𝓤) → i < k → Unit {0} → (Unit {0} → ent 𝓤 (⋆ 𝓤 H A (Γ (suc i))) X) → ent 𝓤 (⋆ 𝓤 H A (Γ i)) (Wp 𝓤 H (𝓣 .C) (𝓣 .Λ) En body.turn-1 (afterTurn 𝓤 H X Left))
     unfolding afterTurn afterCalls
     more i X small _ go =
         qed W (Γ i) ∵ exec ! (𝓣 .C) (𝓣 .Λ) En body.turn-1 (anyQ (afterTurn 𝓤 H X Left)) $
-        -- [_4; what it owns; the token; _5; _7; _8; _9; _10; _3; _1; _2; _6; _0; …]
-        assigns ! (bin ! (load ! (from ! (stop !)) (look ! 3 refl)) (load ! (from ! (stop !)) (look ! 8 refl)) tt) (from ! (stop !)) (init ! 4 refl (tt, tt)) $
-        rewrite ! 4 (λ (t : Bool). ‵ (fat fullShare (tyAt body.locals 7) l₇ 0 (vbool t))) (holds (ltb i k) (lt→ltb i k small)) refl $
-        stays ! (load ! (from ! (stop !)) (look ! 4 refl)) $
-        assigns ! (addr ! (from ! (stop !))) (from ! (stop !)) (init ! 6 refl (tt, tt)) $
+        -- [_4; what it owns; the token; _5; _6; _8; _9; _3; _1; _2; _7; _0; …]
+        assigns ! (addr ! (from ! (stop !))) (from ! (stop !)) (init ! 5 refl (tt, tt)) $
         use3 W (later (some (λ (b : ℕ). some (λ (γ : GName). raw (lent.Next 𝓤 H A at-mem run .pre (to b γ (rd i))) ⊛ Way b γ)))) (lent.lends 𝓤 H A W κ (tyAt body.locals 4) refl l₄ at-mem run q (rd i)) $ await ! tt $ pick ! (λ b. pick ! (λ γ. split ! $
-        -- [what `next` asks; the way back; _5; _7; _8; _9; …]
-        calls-at ! fm (lent.Next 𝓤 H A at-mem run) known (to b γ (rd i)) (and-then ! (load ! (from ! (stop !)) (look ! 5 refl)) (no-more !)) (λ u.
+        -- [what `next` asks; the way back; _5; _6; _8; _9; …]
+        calls-at ! fm (lent.Next 𝓤 H A at-mem run) known (to b γ (rd i)) (and-then ! (load ! (from ! (stop !)) (look ! 4 refl)) (no-more !)) (λ u.
         use1 W (later (some (λ (r : Next). Answered b γ (rd i) u r))) (id⊢ 𝓤 _) $ await ! tt $ pick ! (λ r. split ! $ move ! (1 ∷ []) $
         use1 W (some (λ (zs : Lasts nx.ended (κ₂ b) (ref γ (rd i))). ‵ (lasts nx.ended (κ₂ b) (ref γ (rd i)) zs) ⊛ raw (fact 𝓤 (Said (rd i) r (zs .0))))) (id⊢ 𝓤 _) $ pick ! (λ zs. split ! $ move ! (1 ∷ []) $ heard ! (Said (rd i) r (zs .0)) (λ e.
         move ! (1 ∷ []) $ split ! $ move ! (1 ∷ []) $
-        -- [the answer; the tokens; the last reader; the way back; _5; _7; _8; …]
+        -- [the answer; the tokens; the last reader; the way back; _5; _6; _8; _9; _3; …]
         peeks ! O.the-row (Is O.the-row) (shows 𝓤 H A O.the-row) r (u ∷ []) (λ is.
-        land ! (from ! (stop !)) (init ! 6 refl (EL.lawful O.the-type O′.the-laws 𝓤 H A W tt .typed r _ is .0)) $ drop ! $
+        land ! (from ! (stop !)) (init ! 5 refl (EL.lawful O.the-type O′.the-laws 𝓤 H A W tt .typed r _ is .0)) $ drop ! $
         rewrite ! 1 (λ (z : ItemReader). ‵ (fsep (fres γ (walking.B κ .coded .code z)) ftrue)) (e .1) refl $
         use3 W (later (‵ (Cell (rd (suc i))) ⊛ ‵ (Own (rd (suc i))) ⊛ ‵ (flft κ q))) (lent.backs 𝓤 H A W κ (tyAt body.locals 4) refl l₄ at-mem run q b γ (rd (suc i))) $ await ! tt $ split ! $ move ! (1 ∷ []) $ split ! $ move ! (2 ∷ 0 ∷ []) $
+        assigns ! (bin ! (load ! (from ! (stop !)) (look ! 3 refl)) (load ! (from ! (stop !)) (look ! 7 refl)) tt) (from ! (stop !)) (init ! 6 refl (tt, tt)) $
+        rewrite ! 6 (λ (t : Bool). ‵ (fat fullShare (tyAt body.locals 9) l₉ 0 (vbool t))) (holds (ltb i k) (lt→ltb i k small)) refl $
+        branches ! (load ! (from ! (stop !)) (look ! 6 refl))
+        (λ _.
         assigns-last ! (bin ! (load ! (from ! (stop !)) (look ! 3 refl)) (lit ! tt) (record { fits = step-fits i k small gk })) (from ! (stop !)) (store ! 3 refl (tt, record { fits = step-fits i k small gk })) $
         forget ! 4 refl $ forget ! 5 refl $ forget ! 6 refl $
-        rewrite ! 3 (λ (j : ℕ). ‵ (fat fullShare word l₅ 0 (vint w64 j))) (add-one i) refl $ by ! (go tt))))))))
+        rewrite ! 3 (λ (j : ℕ). ‵ (fat fullShare word l₅ 0 (vint w64 j))) (add-one i) refl $ by ! (go tt))
+        (λ z. absurd z))))))))
 
-    -- the turn that leaves the loop, and the last call
+    -- the turn that returns what its call answers
     ends : (X : SProp 𝓤) → Unit {0} → ent 𝓤 (⋆ 𝓤 H A (Γ k)) (Wp 𝓤 H (𝓣 .C) (𝓣 .Λ) En body.turn-1 (afterTurn 𝓤 H X Left))
     unfolding afterTurn
     ends X _ =
         qed W (Γ k) ∵ exec ! (𝓣 .C) (𝓣 .Λ) En body.turn-1 (anyQ (afterTurn 𝓤 H X Left)) $
-        assigns ! (bin ! (load ! (from ! (stop !)) (look ! 3 refl)) (load ! (from ! (stop !)) (look ! 8 refl)) tt) (from ! (stop !)) (init ! 4 refl (tt, tt)) $
-        rewrite ! 4 (λ (t : Bool). ‵ (fat fullShare (tyAt body.locals 7) l₇ 0 (vbool t))) (fails (ltb k k) (λ z. lt-irrefl k (ltb→lt k k z))) refl $
-        leaves-loop ! (load ! (from ! (stop !)) (look ! 4 refl)) $ exec ! (𝓣 .C) (𝓣 .Λ) En body.t-5 (atRet En Post) $
-        assigns ! (addr ! (from ! (stop !))) (from ! (stop !)) (init ! 7 refl (tt, tt)) $
+        assigns ! (addr ! (from ! (stop !))) (from ! (stop !)) (init ! 5 refl (tt, tt)) $
         use3 W (later (some (λ (b : ℕ). some (λ (γ : GName). raw (lent.Next 𝓤 H A at-mem run .pre (to b γ (rd k))) ⊛ Way b γ)))) (lent.lends 𝓤 H A W κ (tyAt body.locals 4) refl l₄ at-mem run q (rd k)) $ await ! tt $ pick ! (λ b. pick ! (λ γ. split ! $
-        calls-at ! fm (lent.Next 𝓤 H A at-mem run) known (to b γ (rd k)) (and-then ! (load ! (from ! (stop !)) (look ! 6 refl)) (no-more !)) (λ u.
+        -- [what `next` asks; the way back; _5; _6; _8; _9; …]
+        calls-at ! fm (lent.Next 𝓤 H A at-mem run) known (to b γ (rd k)) (and-then ! (load ! (from ! (stop !)) (look ! 4 refl)) (no-more !)) (λ u.
         use1 W (later (some (λ (r : Next). Answered b γ (rd k) u r))) (id⊢ 𝓤 _) $ await ! tt $ pick ! (λ r. split ! $ move ! (1 ∷ []) $
         use1 W (some (λ (zs : Lasts nx.ended (κ₂ b) (ref γ (rd k))). ‵ (lasts nx.ended (κ₂ b) (ref γ (rd k)) zs) ⊛ raw (fact 𝓤 (Said (rd k) r (zs .0))))) (id⊢ 𝓤 _) $ pick ! (λ zs. split ! $ move ! (1 ∷ []) $ heard ! (Said (rd k) r (zs .0)) (λ e.
         move ! (1 ∷ []) $ split ! $ move ! (1 ∷ []) $
-        -- [the answer; the tokens; the last reader; the way back; _5; _7; _8; _9; _10; _3; _1; _2; _6; _0; …]
+        -- [the answer; the tokens; the last reader; the way back; _5; _6; _8; _9; _3; …]
         peeks ! O.the-row (Is O.the-row) (shows 𝓤 H A O.the-row) r (u ∷ []) (λ is.
-        land ! (from ! (stop !)) (init ! 13 refl (EL.lawful O.the-type O′.the-laws 𝓤 H A W tt .typed r _ is .0)) $ drop ! $
+        land ! (from ! (stop !)) (init ! 5 refl (EL.lawful O.the-type O′.the-laws 𝓤 H A W tt .typed r _ is .0)) $ drop ! $
         use3 W (later (‵ (Cell (zs .0)) ⊛ ‵ (Own (zs .0)) ⊛ ‵ (flft κ q))) (lent.backs 𝓤 H A W κ (tyAt body.locals 4) refl l₄ at-mem run q b γ (zs .0)) $ await ! tt $ split ! $ move ! (1 ∷ []) $ split ! $ move ! (2 ∷ 0 ∷ []) $
-        -- [_4; what it owns; the token; _5; _7; _8; _9; _10; _3; _1; _2; _6; _0; what the body owns; and that each local dies]
-        returns ! (look ! 12 refl) $ forget ! 0 refl $ forget ! 3 refl $ forget ! 4 refl $ forget ! 7 refl $ forget ! 8 refl $ forget ! 9 refl $ forget ! 10 refl $ forget ! 12 refl $
-        move ! (12 ∷ 14 ∷ []) $ free1 ! $ move ! (9 ∷ 13 ∷ []) $ free1 ! $ move ! (9 ∷ 12 ∷ []) $ free1 ! $ move ! (8 ∷ 11 ∷ []) $ free1 ! $ move ! (0 ∷ 10 ∷ []) $ free1 ! $ move ! (2 ∷ 9 ∷ []) $ free1 ! $ move ! (6 ∷ 8 ∷ []) $ free1 ! $ move ! (2 ∷ 7 ∷ []) $ free1 ! $ move ! (2 ∷ 6 ∷ []) $ free1 ! $ move ! (2 ∷ 5 ∷ []) $ free1 ! $ move ! (2 ∷ 4 ∷ []) $ free1 ! $ free0 ! $ keep ! (1 ∷ 2 ∷ []) $ by ! (exits r u is (e .0 ∙ ap (λ (z : ItemReader). nthOf z k) is-x)))))))))
+        assigns ! (bin ! (load ! (from ! (stop !)) (look ! 3 refl)) (load ! (from ! (stop !)) (look ! 7 refl)) tt) (from ! (stop !)) (init ! 6 refl (tt, tt)) $
+        rewrite ! 6 (λ (t : Bool). ‵ (fat fullShare (tyAt body.locals 9) l₉ 0 (vbool t))) (fails (ltb k k) (λ z. lt-irrefl k (ltb→lt k k z))) refl $
+        branches ! (load ! (from ! (stop !)) (look ! 6 refl)) (λ z. absurd z)
+        (λ _.
+        assigns ! (of-opd ! (load ! (from ! (stop !)) (look ! 4 refl))) (from ! (stop !)) (init ! 11 refl (EL.lawful O.the-type O′.the-laws 𝓤 H A W tt .typed r _ is .0)) $
+        -- [_4; what it owns; the token; _5; _6; _8; _9; _3; _1; _2; _7; _0; what the body owns; and that each local dies]
+        returns-within ! Post refl (look ! 11 refl) $ forget ! 0 refl $ forget ! 3 refl $ forget ! 4 refl $ forget ! 5 refl $ forget ! 6 refl $ forget ! 7 refl $ forget ! 8 refl $ forget ! 9 refl $ forget ! 11 refl $
+        move ! (11 ∷ 13 ∷ []) $ free1 ! $ move ! (8 ∷ 12 ∷ []) $ free1 ! $ move ! (8 ∷ 11 ∷ []) $ free1 ! $ move ! (7 ∷ 10 ∷ []) $ free1 ! $ move ! (0 ∷ 9 ∷ []) $ free1 ! $ move ! (2 ∷ 8 ∷ []) $ free1 ! $ move ! (2 ∷ 7 ∷ []) $ free1 ! $ move ! (4 ∷ 6 ∷ []) $ free1 ! $ move ! (2 ∷ 5 ∷ []) $ free1 ! $ move ! (2 ∷ 4 ∷ []) $ free1 ! $ free0 ! $ keep ! (1 ∷ 2 ∷ []) $ by ! (exits r u is (e .0 ∙ ap (λ (z : ItemReader). nthOf z k) is-x))))))))))
 
   -- the MIR, up to the loop
   walk : (𝓣 : Tables 𝓤 H) → FmC 𝓤 H (W .laws) (𝓣 .C) → Triple 𝓤 (𝓣 .C #open) (Opens 𝓤 H A at-mem run) → Triple 𝓤 (𝓣 .C #next) (lent.Next 𝓤 H A at-mem run)
@@ -229,26 +234,26 @@ module _ {M : Type 1} (𝓤 : URA M) (H : Heap 𝓤) (A : Atoms 𝓤) (W : Given
   unfolding afterCalls
   walk 𝓣 fm known-open known =
       qed W ((‵ (flft κ q) ⊛ ‵ ftrue) ∷ ‵ (owns (ShrSlice (named 0) κ u8 ∷ u32 ∷ usize ∷ []) a at) ∷ []) ∵ enter ! (𝓣 .C) (𝓣 .Λ) code.function (v ∷ vint w32 g ∷ vint w64 k ∷ []) _ $
-      alloc1 ! (λ l₀. alloc1 ! (λ l₁. alloc1 ! (λ l₂. alloc1 ! (λ l₃. alloc1 ! (λ l₄. alloc1 ! (λ l₅. alloc1 ! (λ l₆. alloc1 ! (λ l₇. alloc1 ! (λ l₈. alloc1 ! (λ l₉. alloc1 ! (λ l₁₀. alloc0 ! $ params1 ! $
-      pass1 ! (init ! 18 refl (shr-slice-lawful 𝓤 H A W (named 0) κ u8 .typed s (v ∷ []) p .0)) $ pass1 ! (init ! 16 refl (tt, record { fits = gg })) $ pass1 ! (init ! 14 refl (tt, record { fits = gk })) $ pass0 ! $
-      -- [_10; dies; …; _1; dies; room for _0; dies; the tokens; what the parameters own]: what the body owns is had twice
-      move ! (23 ∷ []) $ fsplit ! $ use1 W (‵ OwnS ⊛ ‵ OwnS) (shr-slice-copy 𝓤 H A W (named 0) κ u8 .twice s (v ∷ [])) $ split ! $ move ! (2 ∷ []) $ drop ! $
-      nothing ! $ owned ! u32 (Is u32) (uint-makes 𝓤 H A W w32) g _ (refl, gg) $ fjoin ! $ move ! (1 ∷ 0 ∷ []) $ fjoin ! $ move ! (24 ∷ 0 ∷ []) $ use2 W (raw (Opens 𝓤 H A at-mem run .pre to-open)) ask-open $
-      -- [what `open` asks; what the body owns; _10; dies; …]
-      calls-at ! fm (Opens 𝓤 H A at-mem run) known-open to-open (and-then ! (load ! (from ! (stop !)) (look ! 20 refl)) (and-then ! (load ! (from ! (stop !)) (look ! 18 refl)) (no-more !))) (λ u.
+      alloc1 ! (λ l₀. alloc1 ! (λ l₁. alloc1 ! (λ l₂. alloc1 ! (λ l₃. alloc1 ! (λ l₄. alloc1 ! (λ l₅. alloc1 ! (λ l₆. alloc1 ! (λ l₇. alloc1 ! (λ l₈. alloc1 ! (λ l₉. alloc0 ! $ params1 ! $
+      pass1 ! (init ! 16 refl (shr-slice-lawful 𝓤 H A W (named 0) κ u8 .typed s (v ∷ []) p .0)) $ pass1 ! (init ! 14 refl (tt, record { fits = gg })) $ pass1 ! (init ! 12 refl (tt, record { fits = gk })) $ pass0 ! $
+      -- [_9; dies; …; _1; dies; room for _0; dies; the tokens; what the parameters own]: what the body owns is had twice
+      move ! (21 ∷ []) $ fsplit ! $ use1 W (‵ OwnS ⊛ ‵ OwnS) (shr-slice-copy 𝓤 H A W (named 0) κ u8 .twice s (v ∷ [])) $ split ! $ move ! (2 ∷ []) $ drop ! $
+      nothing ! $ owned ! u32 (Is u32) (uint-makes 𝓤 H A W w32) g _ (refl, gg) $ fjoin ! $ move ! (1 ∷ 0 ∷ []) $ fjoin ! $ move ! (22 ∷ 0 ∷ []) $ use2 W (raw (Opens 𝓤 H A at-mem run .pre to-open)) ask-open $
+      -- [what `open` asks; what the body owns; _9; dies; …]
+      calls-at ! fm (Opens 𝓤 H A at-mem run) known-open to-open (and-then ! (load ! (from ! (stop !)) (look ! 18 refl)) (and-then ! (load ! (from ! (stop !)) (look ! 16 refl)) (no-more !))) (λ u.
       use1 W (later (some (λ (x : ItemReader). ((‵ (flft κ q) ⊛ ‵ ftrue) ⊛ ‵ (B₀ .own x (u ∷ []))) ⊛ raw (ensured 𝓤 H A op.ended (op.clauses 𝓤 H A at-mem run) (κ, tt) (s, (g, tt)) tt x)))) (id⊢ 𝓤 _) $ await ! tt $ pick ! (λ x.
       split ! $ move ! (1 ∷ []) $ use1 W (raw (fact 𝓤 (x ≡ opened s g))) (said-open x) $ heard ! (x ≡ opened s g) (λ e. split ! $ move ! (1 ∷ []) $
-      -- [what the reader owns; the tokens; what the body owns; _10; dies; …]
+      -- [what the reader owns; the tokens; what the body owns; _9; dies; …]
       peeks ! B₀ (Is B₀) (shows 𝓤 H A B₀) x (u ∷ []) (λ is.
       let told = LL.tells (T.the-type αᵉ) (T′.the-laws αᵉ) x (u ∷ []) is in
-      land ! (from ! (stop !)) (init ! 11 refl (LL.lawful (T.the-type αᵉ) (T′.the-laws αᵉ) 𝓤 H A W .typed x _ is .0)) $
-      rewrite ! 11 (λ (w : Val). ‵ (fat fullShare (tyAt body.locals 6) l₆ 0 w)) (ap only told) refl $ rewrite ! 0 (λ (w : Val). ‵ (B₀ .own x (w ∷ []))) (ap only told) refl $
-      assigns ! (of-opd ! (load ! (from ! (stop !)) (look ! 11 refl))) (from ! (stop !)) (init ! 15 refl (LL.lawful (T.the-type αᵉ) (T′.the-laws αᵉ) 𝓤 H A W .typed x _ (subst (Is (T.the-row αᵉ) x) told is) .0)) $
-      assigns ! (of-opd ! (lit ! tt)) (from ! (stop !)) (init ! 13 refl (tt, record { fits = lit< tt })) $ forget ! 11 refl $ move ! (1 ∷ []) $ split ! $
-      -- [the token; true; what the reader owns; what the body owns; _10; dies; …]
-      keep ! (16 ∷ 2 ∷ 0 ∷ 14 ∷ 10 ∷ 8 ∷ 6 ∷ 4 ∷ 18 ∷ 22 ∷ 20 ∷ 12 ∷ 24 ∷ 3 ∷ 25 ∷ 23 ∷ 21 ∷ 19 ∷ 17 ∷ 15 ∷ 13 ∷ 11 ∷ 9 ∷ 7 ∷ 5 ∷ []) $
-      by ! (counted 𝓤 H A W 𝓣 (En 𝓣 fm known x e l₀ l₁ l₂ l₃ l₄ l₅ l₆ l₇ l₈ l₉ l₁₀) body.turn-1 (Left 𝓣 fm known x e l₀ l₁ l₂ l₃ l₄ l₅ l₆ l₇ l₈ l₉ l₁₀) k (λ _. Unit {0}) (Γ 𝓣 fm known x e l₀ l₁ l₂ l₃ l₄ l₅ l₆ l₇ l₈ l₉ l₁₀)
-      (more 𝓣 fm known x e l₀ l₁ l₂ l₃ l₄ l₅ l₆ l₇ l₈ l₉ l₁₀) (ends 𝓣 fm known x e l₀ l₁ l₂ l₃ l₄ l₅ l₆ l₇ l₈ l₉ l₁₀) 0 k (zero-add k) tt))))))))))))))))
+      land ! (from ! (stop !)) (init ! 7 refl (LL.lawful (T.the-type αᵉ) (T′.the-laws αᵉ) 𝓤 H A W .typed x _ is .0)) $
+      rewrite ! 7 (λ (w : Val). ‵ (fat fullShare (tyAt body.locals 7) l₇ 0 w)) (ap only told) refl $ rewrite ! 0 (λ (w : Val). ‵ (B₀ .own x (w ∷ []))) (ap only told) refl $
+      assigns ! (of-opd ! (load ! (from ! (stop !)) (look ! 7 refl))) (from ! (stop !)) (init ! 13 refl (LL.lawful (T.the-type αᵉ) (T′.the-laws αᵉ) 𝓤 H A W .typed x _ (subst (Is (T.the-row αᵉ) x) told is) .0)) $
+      assigns ! (of-opd ! (lit ! tt)) (from ! (stop !)) (init ! 11 refl (tt, record { fits = lit< tt })) $ forget ! 7 refl $ move ! (1 ∷ []) $ split ! $
+      -- [the token; true; what the reader owns; what the body owns; _9; dies; …]
+      keep ! (14 ∷ 2 ∷ 0 ∷ 12 ∷ 10 ∷ 6 ∷ 4 ∷ 16 ∷ 20 ∷ 18 ∷ 8 ∷ 22 ∷ 3 ∷ 23 ∷ 21 ∷ 19 ∷ 17 ∷ 15 ∷ 13 ∷ 11 ∷ 9 ∷ 7 ∷ 5 ∷ []) $
+      by ! (counted 𝓤 H A W 𝓣 (En 𝓣 fm known x e l₀ l₁ l₂ l₃ l₄ l₅ l₆ l₇ l₈ l₉) body.turn-1 (Left 𝓣 fm known x e l₀ l₁ l₂ l₃ l₄ l₅ l₆ l₇ l₈ l₉) k (λ _. Unit {0}) (Γ 𝓣 fm known x e l₀ l₁ l₂ l₃ l₄ l₅ l₆ l₇ l₈ l₉)
+      (more 𝓣 fm known x e l₀ l₁ l₂ l₃ l₄ l₅ l₆ l₇ l₈ l₉) (ends 𝓣 fm known x e l₀ l₁ l₂ l₃ l₄ l₅ l₆ l₇ l₈ l₉) 0 k (zero-add k) tt)))))))))))))))
 
 module _ {M : Type 1} (𝓤 : URA M) (H : Heap 𝓤) (A : Atoms 𝓤) (W : Given 𝓤 H A) (mem′ : Memory → SProp 𝓤) (run : Routine → Fun 𝓤) where
   walks : (𝓣 : Tables 𝓤 H) → Triple 𝓤 (𝓣 .C #open) (Opens 𝓤 H A mem′ run) → Triple 𝓤 (𝓣 .C #next) (lent.Next 𝓤 H A mem′ run)
