@@ -5,9 +5,9 @@ use mathlib.Core.Path.{_≡_, refl, sym, ap, _∙_}
 use mathlib.Core.List.{List}
 use native.Mathlib.Omega.{arith}
 use lib.ListN.{length, getD}
-use Rattle.codec.specs.Number.{readNumber}
-use Rattle.codec.specs.declared.NumberRead.the-variants.{Done}
-use Rattle.codec.proofs.Reading.{first-long, turn-last, turn-more}
+use Rattle.numbers.specs.Number.{readNumber}
+use Rattle.numbers.specs.declared.NumberRead.the-variants.{Done}
+use Rattle.numbers.proofs.Reading.{first-long, turn-last, turn-more}
 use Rattle.log_item.specs.Got.{got}
 use Rattle.log_item.specs.Reading.{number}
 use Rattle.log_item.specs.declared.Form.{Form}
