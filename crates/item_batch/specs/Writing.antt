@@ -11,7 +11,7 @@ use Rattle.log_item.specs.Prefix.{bytesOf}
 use Rattle.log_item.specs.declared.LogItem.{LogItem}
 use Rattle.log_item.specs.declared.EntryIndex.{EntryIndex}
 use Rattle.item_writer.specs.Answers as item
-use Rattle.item_writer.specs.Each.{Each}
+use Rattle.log_item.specs.Each.{Each}
 use Rattle.item_writer.specs.Relocated.{itemAt, itemRows, spansOf, numbersOf, Small}
 use Rattle.list_writer.specs.declared.Encoded.{Encoded}
 use Rattle.list_measure.specs.Bytes.{itemsOf, lengthsOf}

@@ -1,4 +1,3 @@
-pub mod Each
 pub mod Bytes
 pub mod Refusing
 pub mod Answers

@@ -18,7 +18,7 @@ use Rattle.log_item.specs.declared.LogItemContent.{LogItemContent}
 use Rattle.log_item.specs.declared.LogItemContent.the-variants as contents
 use Rattle.log_item.specs.declared.LogItem.{LogItem}
 use Rattle.log_item.specs.declared.EntryIndex.{EntryIndex}
-use Rattle.item_writer.specs.Each.{Each}
+use Rattle.log_item.specs.Each.{Each}
 use Rattle.item_writer.specs.Refusing.{contentInside}
 use Rattle.item_writer.specs.Answers.{sumOf, rowLengths}
 

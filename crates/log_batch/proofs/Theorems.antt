@@ -42,11 +42,12 @@ use Rattle.body_check.proofs.Refusing.{refusal-some}
 use Rattle.item_batch.specs.declared.LogItemBatch.{LogItemBatch}
 use Rattle.item_batch.specs.Table.{tableOf, emptyTable}
 use Rattle.item_batch.specs.Writing.{listed, rowLengths, BodyWritten, bodyItems, bodyRows, keysAndContents, AllSmall}
-use Rattle.one_reading.specs.Spelling.{NumberIn, Spells, list}
+use Rattle.log_item.specs.Spelling.{NumberIn}
+use Rattle.one_reading.specs.Spelling.{Spells, list}
 use Rattle.one_reading.specs.Acceptable.{Acceptable, Begins}
 use Rattle.one_reading.specs.Plain.{InPlainForm}
 use Rattle.one_reading.specs.Rows.{Joined, Indexed}
-use Rattle.one_reading.specs.Place.{Asks}
+use Rattle.log_item.specs.Place.{Asks}
 use Rattle.one_reading.proofs.Accepts.{of-accepted}
 use Rattle.one_reading.proofs.Listing.{complete, sound, items-joined, items-indexed}
 use Rattle.one_reading.proofs.One.{one-spelled}

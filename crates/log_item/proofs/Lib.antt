@@ -5,4 +5,11 @@ pub mod Passing
 pub mod Known
 pub mod Starts
 pub mod Inside
+pub mod Place
+pub mod Numbers
+pub mod Complete
+pub mod Sound
+pub mod Forms
+pub mod Agree
+pub mod One
 pub mod Determined

@@ -4,3 +4,7 @@ pub mod Reading
 pub mod Answers
 pub mod Prefix
 pub mod Blank
+pub mod Each
+pub mod Limits
+pub mod Spelling
+pub mod Place

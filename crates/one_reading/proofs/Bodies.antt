@@ -15,7 +15,7 @@ use Rattle.log_item.specs.declared.Form.the-variants.{Any, Plain}
 use Rattle.log_item.specs.declared.LogItem.{LogItem}
 use Rattle.log_item.specs.declared.EntryIndex.{EntryIndex}
 use Rattle.words.specs.Byte.{Bytes}
-use Rattle.one_reading.proofs.Place.{bytes-at, at-front}
+use Rattle.log_item.proofs.Place.{bytes-at, at-front}
 use Rattle.body_check.specs.declared.PlainForm.the-variants as plain
 use Rattle.one_reading.specs.Acceptable.{Begins, Acceptable}
 use Rattle.one_reading.specs.Plain.{InPlainForm}

@@ -1,25 +1,21 @@
 -- The rows of an item: how many there are, and how their spans and indexes lie.
 -- Assumes nothing.
-use Prim.Native.Nat.{ℕ, suc, _+_, _-_, _≤_}
-use mathlib.Core.Path.{_≡_, refl, ap}
+use Prim.Native.Nat.{ℕ, _+_, _-_, _≤_}
+use mathlib.Core.Path.{_≡_, refl}
 use mathlib.Core.List.{List, [], _∷_, _++_}
 use native.Mathlib.Omega.{arith}
 use lib.ListN.{length}
 use Rattle.log_item.specs.declared.LogItem.{LogItem}
 use Rattle.log_item.specs.declared.EntryIndex.{EntryIndex}
 use Rattle.log_item.specs.Entries.{entriesOf}
-use Rattle.item_writer.specs.Each.{Each, one}
-use Rattle.item_writer.specs.Each as every
-use Rattle.one_reading.specs.Spelling.{Tails, no-more, next, OneItem, item}
+use Rattle.log_item.specs.Each.{Each, one}
+use Rattle.log_item.specs.Each as every
+use Rattle.log_item.specs.Spelling.{Tails, no-more, next, OneItem, item}
 use Rattle.one_reading.specs.Rows.{Joined, Consecutive}
 use Rattle.one_reading.specs.Rows as lie
+use Rattle.log_item.proofs.Complete.{tails-length}
 
 module _ {N : ℕ → List ℕ → Type 0} where
-  -- There are as many rows as tails.
-  pub tails-length : {n i t u : ℕ} {rows : List EntryIndex} {x : List ℕ} → Tails N n i rows t u x → length rows ≡ n
-  tails-length no-more = refl
-  tails-length (next num rises g) = ap suc (tails-length g)
-
   -- The entry spans start at the total before, each where the one before ended, and the last ends at the total after.
   pub tails-joined : {n i t u : ℕ} {rows : List EntryIndex} {x : List ℕ} → Tails N n i rows t u x → Joined t u rows
   tails-joined no-more = lie.Joined.end

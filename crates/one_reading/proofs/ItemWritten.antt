@@ -13,10 +13,10 @@ use Rattle.numbers.specs.Shortest.{shortest}
 use Rattle.words.specs.Write.{placed}
 use Rattle.log_item.specs.Got.{got}
 use Rattle.log_item.specs.Entries.{entriesOf, typeOf}
-use Rattle.item_writer.specs.Each.{Each, none, one}
-use Rattle.one_reading.specs.Limits.{RowFits}
-use Rattle.one_reading.specs.Spelling.{NumberIn, Spanned, spanned, Contents, no-entries, entries, clean, compact, put, delete, Tails, no-more, next, OneItem, item}
-use Rattle.one_reading.specs.Place.{At}
+use Rattle.log_item.specs.Each.{Each, none, one}
+use Rattle.log_item.specs.Limits.{RowFits}
+use Rattle.log_item.specs.Spelling.{NumberIn, Spanned, spanned, Contents, no-entries, entries, clean, compact, put, delete, Tails, no-more, next, OneItem, item}
+use Rattle.log_item.specs.Place.{At}
 use Rattle.log_item.specs.Prefix.{bytesOf}
 use Rattle.log_item.specs.Reading.{oneItem}
 use Rattle.log_item.specs.declared.Form.{Form}
@@ -30,9 +30,9 @@ use Rattle.log_item.specs.declared.LogItemContent.{LogItemContent}
 use Rattle.log_item.specs.declared.LogItemContent.the-variants as contents
 use Rattle.log_item.specs.declared.LogItem.{LogItem}
 use Rattle.log_item.specs.declared.EntryIndex.{EntryIndex}
-use Rattle.one_reading.proofs.Place.{cut}
-use Rattle.one_reading.proofs.Forms.{form-any}
-use Rattle.one_reading.proofs.Complete.{complete-item}
+use Rattle.log_item.proofs.Place.{cut}
+use Rattle.log_item.proofs.Forms.{form-any}
+use Rattle.log_item.proofs.Complete.{complete-item}
 use Rattle.item_writer.specs.Bytes.{spanBytes, commandBytes, opBytes, entriesBytes, contentBytes, headBytes, tailsBytes}
 use Rattle.log_item.specs.Prefix.{inside}
 use Rattle.item_writer.specs.Refusing.{opInside, contentInside, contentRefusal}

@@ -1,10 +1,4 @@
-pub mod Place
-pub mod Numbers
 pub mod ItemRows
-pub mod Complete
-pub mod Sound
-pub mod Forms
-pub mod Agree
 pub mod ItemWritten
 pub mod ListWritten
 pub mod Accepts

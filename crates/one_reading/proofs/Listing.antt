@@ -11,21 +11,23 @@ use Rattle.log_item.specs.declared.Form.{Form}
 use Rattle.log_item.specs.declared.Form.the-variants.{Any}
 use Rattle.log_item.specs.declared.LogItem.{LogItem}
 use Rattle.log_item.specs.declared.EntryIndex.{EntryIndex}
-use Rattle.item_writer.specs.Each.{Each}
-use Rattle.item_writer.specs.Each as every
-use Rattle.one_reading.specs.Limits.{RowFits, Within}
-use Rattle.one_reading.specs.Spelling.{NumberIn, Items, end, then, Spells, list}
+use Rattle.log_item.specs.Each.{Each}
+use Rattle.log_item.specs.Each as every
+use Rattle.log_item.specs.Limits.{RowFits}
+use Rattle.one_reading.specs.Limits.{Within}
+use Rattle.log_item.specs.Spelling.{NumberIn}
+use Rattle.one_reading.specs.Spelling.{Items, end, then, Spells, list}
 use Rattle.one_reading.specs.Acceptable.{Begins}
 use Rattle.one_reading.specs.Rows.{Joined, Indexed}
 use Rattle.one_reading.specs.Rows as lie
-use Rattle.one_reading.specs.Place.{At, Found, Asks}
+use Rattle.log_item.specs.Place.{At, Found, Asks}
 use Rattle.log_item.proofs.Holds.{Holds, holds, after, at-most}
-use Rattle.one_reading.proofs.Place.{join, cut, nothing, at-front}
-use Rattle.one_reading.proofs.Numbers.{complete-number, sound-number, number-some, in-any}
+use Rattle.log_item.proofs.Place.{join, cut, nothing, at-front}
+use Rattle.log_item.proofs.Numbers.{complete-number, sound-number, number-some, in-any}
 use Rattle.one_reading.proofs.ItemRows.{each-append, each-split, item-length, item-joined, item-consecutive, joined-append}
-use Rattle.one_reading.proofs.Complete.{complete-item}
-use Rattle.one_reading.proofs.Sound.{sound-item}
-use Rattle.one_reading.proofs.Forms.{item-as}
+use Rattle.log_item.proofs.Complete.{complete-item}
+use Rattle.log_item.proofs.Sound.{sound-item}
+use Rattle.log_item.proofs.Forms.{item-as}
 use Rattle.body_check.specs.Reading.{accepted, items, count, readItems}
 use Rattle.one_reading.proofs.Accepts.{Accepts, accepts, in-front, counting, weaken, one-more}
 

@@ -20,10 +20,12 @@ use Rattle.words.specs.Byte.{Bytes}
 use Rattle.crc.proofs.Laws.{crc-lt}
 use Rattle.crc.proofs.Xor.{xor-cancel-l}
 use Rattle.log_item.specs.Entries.{entriesOf}
-use Rattle.item_writer.specs.Each.{Each, none, one}
-use Rattle.one_reading.specs.Limits.{RowFits, Within}
-use Rattle.one_reading.specs.Spelling.{NumberIn, Items, end, then, Spells, list}
-use Rattle.one_reading.specs.Place.{At}
+use Rattle.log_item.specs.Each.{Each, none, one}
+use Rattle.log_item.specs.Limits.{RowFits}
+use Rattle.one_reading.specs.Limits.{Within}
+use Rattle.log_item.specs.Spelling.{NumberIn}
+use Rattle.one_reading.specs.Spelling.{Items, end, then, Spells, list}
+use Rattle.log_item.specs.Place.{At}
 use Rattle.one_reading.specs.Encoding.{Encodes, writes, leaves}
 use Rattle.log_item.specs.declared.Form.the-variants.{Any, Plain}
 use Rattle.log_item.specs.declared.LogItemContent.{LogItemContent}
@@ -31,10 +33,10 @@ use Rattle.log_item.specs.declared.LogItemContent.the-variants as contents
 use Rattle.log_item.specs.declared.LogItem.{LogItem}
 use Rattle.log_item.specs.declared.EntryIndex.{EntryIndex}
 use Rattle.log_item.proofs.Holds.{of-got}
-use Rattle.one_reading.proofs.Numbers.{in-any}
-use Rattle.one_reading.proofs.Place.{cut, at-front}
+use Rattle.log_item.proofs.Numbers.{in-any}
+use Rattle.log_item.proofs.Place.{cut, at-front}
 use Rattle.one_reading.proofs.ItemRows.{each-append, item-length}
-use Rattle.one_reading.proofs.Sound.{sound-item}
+use Rattle.log_item.proofs.Sound.{sound-item}
 use Rattle.item_writer.specs.Refusing.{contentRefusal}
 use Rattle.item_writer.specs.Answers.{sumOf, rowLengths, itemBytes}
 use Rattle.item_writer.specs.Relocated.{stated, contentAt, itemAt, itemRows, numbersOf, Small, Writable}

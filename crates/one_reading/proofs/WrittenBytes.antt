@@ -19,7 +19,7 @@ use Rattle.log_item.specs.declared.LogItemContent.the-variants as contents
 use Rattle.log_item.specs.declared.LogItem.{LogItem}
 use Rattle.item_writer.specs.Bytes.{spanBytes, commandBytes, opBytes, entriesBytes, contentBytes, headBytes, tailsBytes}
 use Rattle.item_writer.specs.Answers.{sumOf, rowLengths, itemBytes}
-use Rattle.item_writer.specs.Each.{one}
+use Rattle.log_item.specs.Each.{one}
 use Rattle.item_writer.specs.Relocated.{numbersOf, Small}
 use Rattle.item_writer.proofs.Tails.{tailsOf, sum-rises}
 

@@ -12,7 +12,8 @@ use Rattle.log_item.specs.declared.Form.the-variants.{Any}
 use Rattle.log_item.specs.declared.LogItem.{LogItem}
 use Rattle.log_item.specs.declared.EntryIndex.{EntryIndex}
 use Rattle.one_reading.specs.Limits.{Within}
-use Rattle.one_reading.specs.Spelling.{NumberIn, Spells}
+use Rattle.log_item.specs.Spelling.{NumberIn}
+use Rattle.one_reading.specs.Spelling.{Spells}
 
 -- s begins with bytes that the list spells, with its numbers in a form, and the list is within the limits.
 pub record Begins (form : Form) (s : List ℕ) (xs : List LogItem) (rows : List EntryIndex) (total : ℕ) (bytes : List ℕ) : Type 0 where

@@ -3,5 +3,4 @@ pub mod Spelling
 pub mod Acceptable
 pub mod Plain
 pub mod Rows
-pub mod Place
 pub mod Encoding

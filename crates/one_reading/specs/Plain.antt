@@ -5,7 +5,8 @@ use mathlib.Core.List.{List}
 use Rattle.log_item.specs.declared.Form.the-variants.{Plain}
 use Rattle.log_item.specs.declared.LogItem.{LogItem}
 use Rattle.log_item.specs.declared.EntryIndex.{EntryIndex}
-use Rattle.one_reading.specs.Spelling.{NumberIn, Spells}
+use Rattle.log_item.specs.Spelling.{NumberIn}
+use Rattle.one_reading.specs.Spelling.{Spells}
 use Rattle.one_reading.specs.Acceptable.{Acceptable}
 
 -- A body is acceptable, and in the bytes that its list spells each number has the shortest spelling.

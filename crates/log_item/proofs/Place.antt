@@ -10,10 +10,10 @@ use lib.Seq.{drop-cons, drop-drop, drop-append-seam}
 use borrow.Author.Tests.{lt-ltb}
 use Rattle.words.specs.Byte.{Bytes}
 use Rattle.words.proofs.Bytes.{bytes-front, bytes-drop}
 use Rattle.log_item.specs.Got.{got}
 use Rattle.log_item.specs.Reading.{byte}
 use Rattle.log_item.proofs.Holds.{Holds, holds, below}
-use Rattle.one_reading.specs.Place.{At}
+use Rattle.log_item.specs.Place.{At}
 
 -- Bytes with others behind them begin them.
 pub at-front : (x y : List ℕ) → At (x ++ y) 0 (length x) x

@@ -4,13 +4,13 @@ use Prim.Native.Nat.{ℕ, _≤_}
 use mathlib.Core.Path.{_≡_}
 use mathlib.Core.Logic.{_↔_}
 use mathlib.Core.List.{List}
 use Rattle.log_item.specs.declared.Form.{Form}
 use Rattle.log_item.specs.Got.{got}
 use Rattle.log_item.specs.Reading.{Read, oneItem}
 use Rattle.log_item.proofs.Holds.{of-got}
-use Rattle.one_reading.specs.Place.{Found, Asks, ItemSpelled}
-use Rattle.one_reading.proofs.Complete.{complete-item}
-use Rattle.one_reading.proofs.Sound.{sound-item}
+use Rattle.log_item.specs.Place.{Found, Asks, ItemSpelled}
+use Rattle.log_item.proofs.Complete.{complete-item}
+use Rattle.log_item.proofs.Sound.{sound-item}
 
 -- With e entries and the total t before it, an item is read from p up to q exactly when it is spelled from p up to q, within the limits.
 pub read-iff-spelled : (form : Form) (s : List ℕ) → Asks form s → (e t p : ℕ) → e ≤ 1024 → (r : Read) (q : ℕ)

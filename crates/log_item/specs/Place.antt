@@ -5,12 +5,12 @@ use mathlib.Core.Path.{_≡_}
 use mathlib.Core.List.{List, _++_}
 use lib.ListN.{length, drop}
 use Rattle.words.specs.Byte.{Bytes}
 use Rattle.log_item.specs.declared.Form.{Form}
 use Rattle.log_item.specs.declared.Form.the-variants.{Any, Plain}
 use Rattle.log_item.specs.Reading.{Read}
-use Rattle.item_writer.specs.Each.{Each}
-use Rattle.one_reading.specs.Limits.{RowFits}
-use Rattle.one_reading.specs.Spelling.{NumberIn, OneItem}
+use Rattle.log_item.specs.Each.{Each}
+use Rattle.log_item.specs.Limits.{RowFits}
+use Rattle.log_item.specs.Spelling.{NumberIn, OneItem}
 
 -- In s, the bytes stand from the place p up to the place q.
 pub record At (s : List ℕ) (p q : ℕ) (bytes : List ℕ) : Type 0 where

@@ -6,23 +6,23 @@ use mathlib.Core.List.{List, [], _∷_, _++_, append-assoc}
 use native.Mathlib.Omega.{arith}
 use lib.ListN.{length, take, drop, length-take, length-drop, take-append-drop}
 use lib.Seq.{drop-drop}
 use Rattle.log_item.specs.declared.Form.{Form}
 use Rattle.log_item.specs.declared.LogItemContent.{LogItemContent}
 use Rattle.log_item.specs.declared.LogItemContent.the-variants as content
 use Rattle.log_item.specs.declared.LogItem.{LogItem}
 use Rattle.log_item.specs.declared.EntryIndex.{EntryIndex}
 use Rattle.log_item.specs.Entries.{entriesOf, typeOf}
-use Rattle.item_writer.specs.Each.{Each, one}
-use Rattle.item_writer.specs.Each as every
-use Rattle.one_reading.specs.Limits.{RowFits}
-use Rattle.one_reading.specs.Spelling.{NumberIn, Spanned, spanned, Contents, no-entries, entries, clean, compact, put, delete, Tails, no-more, next, item}
-use Rattle.one_reading.specs.Place.{At, Found, Asks, ItemSpelled}
+use Rattle.log_item.specs.Each.{Each, one}
+use Rattle.log_item.specs.Each as every
+use Rattle.log_item.specs.Limits.{RowFits}
+use Rattle.log_item.specs.Spelling.{NumberIn, Spanned, spanned, Contents, no-entries, entries, clean, compact, put, delete, Tails, no-more, next, item}
+use Rattle.log_item.specs.Place.{At, Found, Asks, ItemSpelled}
 use Rattle.log_item.specs.Reading.{span, command, putAt, keyValue, firstIndex, entryIndexes, head, tail, tails, oneItem}
 use Rattle.log_item.specs.Reading as reading
 use Rattle.log_item.proofs.Holds.{Holds, holds, refuses, after, at-most, is}
-use Rattle.one_reading.proofs.Place.{join, nothing, sound-byte}
-use Rattle.one_reading.proofs.Numbers.{sound-number}
-use Rattle.one_reading.proofs.ItemRows.{tails-length}
+use Rattle.log_item.proofs.Place.{join, nothing, sound-byte}
+use Rattle.log_item.proofs.Numbers.{sound-number}
+use Rattle.log_item.proofs.Complete.{tails-length}
 
 -- What is spelled where n tails are read from the index i on.
 pub record TailsSpelled (form : Form) (n i t : ℕ) (r : List EntryIndex × ℕ) (x : List ℕ) : Type 0 where

@@ -14,15 +14,15 @@ use Rattle.numbers.specs.Shortest.{shortest}
 use Rattle.numbers.specs.Spelling.{Spells}
 use Rattle.numbers.proofs.Spelled.{groups-pos}
 use Rattle.numbers.proofs.Theorems.{read-iff-stands, shortest-spells, none-as-short, spells-fits}
 use Rattle.log_item.specs.declared.Form.{Form}
 use Rattle.log_item.specs.declared.Form.the-variants.{Any, Plain}
 use Rattle.log_item.specs.Got.{got}
-use Rattle.one_reading.specs.Spelling.{NumberIn}
-use Rattle.one_reading.specs.Place.{At, Found, Asks}
+use Rattle.log_item.specs.Spelling.{NumberIn}
+use Rattle.log_item.specs.Place.{At, Found, Asks}
 use Rattle.log_item.specs.Reading.{numberGot, number}
 use Rattle.log_item.proofs.Holds.{Holds, holds, refuses, after, equal}
 use Rattle.words.specs.Byte.{Bytes}
-use Rattle.one_reading.proofs.Place.{bytes-at}
+use Rattle.log_item.proofs.Place.{bytes-at}
 
 -- A spelling in the shortest form is a spelling.
 pub plain-any : (n : ℕ) (x : List ℕ) → NumberIn Plain n x → NumberIn Any n x

@@ -1,26 +1,30 @@
 -- What is spelled at a place, within the limits, is read there.
 -- Assumes nothing.
 use Prim.Native.Nat.{ℕ, suc, _+_, _≤_}
-use mathlib.Core.Path.{_≡_, sym}
+use mathlib.Core.Path.{_≡_, refl, sym, ap}
 use mathlib.Core.List.{List, [], _∷_}
 use native.Mathlib.Omega.{arith}
 use lib.ListN.{length, length-append}
 use borrow.Author.Tests.{le-leb}
 use Rattle.log_item.specs.declared.Form.{Form}
 use Rattle.log_item.specs.declared.Span.{Span}
 use Rattle.log_item.specs.declared.LogItemContent.{LogItemContent}
 use Rattle.log_item.specs.declared.LogItem.{LogItem}
 use Rattle.log_item.specs.declared.EntryIndex.{EntryIndex}
 use Rattle.log_item.specs.Entries.{entriesOf, typeOf}
 use Rattle.log_item.specs.Got.{got}
-use Rattle.item_writer.specs.Each.{Each, one}
-use Rattle.one_reading.specs.Limits.{RowFits}
-use Rattle.one_reading.specs.Spelling.{NumberIn, Spanned, spanned, Contents, no-entries, entries, clean, compact, put, delete, Tails, no-more, next, OneItem, item}
-use Rattle.one_reading.specs.Place.{At}
+use Rattle.log_item.specs.Each.{Each, one}
+use Rattle.log_item.specs.Limits.{RowFits}
+use Rattle.log_item.specs.Spelling.{NumberIn, Spanned, spanned, Contents, no-entries, entries, clean, compact, put, delete, Tails, no-more, next, OneItem, item}
+use Rattle.log_item.specs.Place.{At}
 use Rattle.log_item.specs.Reading.{span, command, putAt, keyValue, firstIndex, entryIndexes, content, head, tail, tails, oneItem}
-use Rattle.one_reading.proofs.Place.{cut, inside, complete-byte}
-use Rattle.one_reading.proofs.Numbers.{number-some, complete-number}
-use Rattle.one_reading.proofs.ItemRows.{tails-length}
+use Rattle.log_item.proofs.Place.{cut, inside, complete-byte}
+use Rattle.log_item.proofs.Numbers.{number-some, complete-number}
+
+-- There are as many rows as tails.
+pub tails-length : {N : ℕ → List ℕ → Type 0} {n i t u : ℕ} {rows : List EntryIndex} {x : List ℕ} → Tails N n i rows t u x → length rows ≡ n
+tails-length no-more = refl
+tails-length (next num rises g) = ap suc (tails-length g)
 
 -- The last of n + 1 consecutive indexes from i on is i + n, and fits.
 last-index : {N : ℕ → List ℕ → Type 0} {n i t u : ℕ} {rows : List EntryIndex} {x : List ℕ} → Tails N (suc n) i rows t u x → Each RowFits rows
