@@ -12,8 +12,8 @@ use Rattle.words.specs.Write.{wroteAt, placed}
 use Rattle.words.specs.declared.Wrote.{Wrote}
 use Rattle.words.proofs.Words.{length-big, length-little}
 use Rattle.crc.specs.Crc.{crcOf}
-use Rattle.item_writer.specs.Private.{Room, Stored}
-use Rattle.item_writer.proofs.Stores.{stored-then, stored-length, stored-same}
+use Rattle.log_item.specs.Private.{Room, Stored}
+use Rattle.log_item.proofs.Stores.{stored-then, stored-length, stored-same}
 use Rattle.list_measure.specs.declared.Measured.{Measured}
 use Rattle.list_writer.specs.declared.Encoded.{Encoded}
 use Rattle.list_writer.specs.Answers.{encoded, laid}

@@ -4,7 +4,7 @@ ghost use Prim.Native.Nat.{_+_, _≤_, _<_};
 ghost use lib.ListN.{length};
 ghost use Rattle.batch_front.specs.Front.{blockBytes, frontBytes, batchEncoded, FrontWritten};
 ghost use Rattle.words.specs.Write.{placed};
-ghost use Rattle.item_writer.specs.Private.{Room};
+ghost use Rattle.log_item.specs.Private.{Room};
 use list_measure::Measured;
 use list_writer::Encoded;
 

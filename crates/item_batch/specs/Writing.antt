@@ -10,9 +10,9 @@ use Rattle.log_item.specs.Entries.{entriesOf}
 use Rattle.log_item.specs.Prefix.{bytesOf}
 use Rattle.log_item.specs.declared.LogItem.{LogItem}
 use Rattle.log_item.specs.declared.EntryIndex.{EntryIndex}
-use Rattle.item_writer.specs.Answers as item
+use Rattle.log_item.specs.Written as item
 use Rattle.log_item.specs.Each.{Each}
-use Rattle.item_writer.specs.Relocated.{itemAt, itemRows, spansOf, numbersOf, Small}
+use Rattle.log_item.specs.Relocated.{itemAt, itemRows, spansOf, numbersOf, Small}
 use Rattle.list_writer.specs.declared.Encoded.{Encoded}
 use Rattle.list_measure.specs.Bytes.{itemsOf, lengthsOf}
 use Rattle.list_writer.specs.Bytes.{bodyBytes}

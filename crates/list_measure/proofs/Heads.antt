@@ -1,4 +1,4 @@
--- What the functions of item_writer tell of an item: its refusal, its length and its rows.
+-- What `measure` and `encode_head` of log_item tell of an item: its refusal, its length and its rows.
 -- Assumes nothing.
 use Prim.Native.Nat.{ℕ, zero, suc}
 use mathlib.Core.Path.{_≡_, refl, ap}
@@ -8,10 +8,10 @@ use native.Mathlib.Omega.{arith}
 use lib.ListN.{length}
 use Rattle.log_item.specs.Entries.{entriesOf}
 use Rattle.log_item.specs.declared.LogItem.{LogItem}
-use Rattle.item_writer.specs.declared.Head.the-variants.{Fine, Refused}
-use Rattle.item_writer.specs.Bytes.{headBytes}
-use Rattle.item_writer.specs.Refusing.{contentRefusal}
-use Rattle.item_writer.specs.Answers.{capped, headOf, measureItem}
+use Rattle.log_item.specs.declared.Head.the-variants.{Fine, Refused}
+use Rattle.log_item.specs.Bytes.{headBytes}
+use Rattle.log_item.specs.Refusing.{contentRefusal}
+use Rattle.log_item.specs.Written.{capped, headOf, measureItem}
 use Rattle.list_measure.specs.Refusing.{Verdict, fine, refused, unless}
 
 module _ (s : List ℕ) (checked : Bool) (used rows : ℕ) (x : LogItem) where

@@ -12,11 +12,11 @@ use Rattle.numbers.specs.Shortest.{shortest}
 use Rattle.numbers.proofs.Theorems.{shortest-spells}
 use Rattle.log_item.specs.Entries.{entriesOf}
 use Rattle.log_item.specs.declared.LogItem.{LogItem}
-use Rattle.item_writer.specs.declared.Head.the-variants.{Fine, Refused}
-use Rattle.item_writer.specs.Bytes.{headBytes}
-use Rattle.item_writer.specs.Refusing.{contentRefusal}
-use Rattle.item_writer.specs.Answers.{capped, measureItem}
-use Rattle.item_writer.proofs.Refusals.{content-allowed}
+use Rattle.log_item.specs.declared.Head.the-variants.{Fine, Refused}
+use Rattle.log_item.specs.Bytes.{headBytes}
+use Rattle.log_item.specs.Refusing.{contentRefusal}
+use Rattle.log_item.specs.Written.{capped, measureItem}
+use Rattle.log_item.proofs.Refusals.{content-allowed}
 use Rattle.log_item.specs.Blank.{blankItem}
 use Rattle.list_measure.specs.Bytes.{itemsBytes, listBytes}
 use Rattle.list_measure.specs.Refusing.{fine, refused, unless, itemsVerdict, listVerdict}

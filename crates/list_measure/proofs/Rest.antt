@@ -12,8 +12,8 @@ use lib.Seq.{drop-cons, drop-drop}
 use Rattle.numbers.specs.Shortest.{shortest}
 use Rattle.log_item.specs.Entries.{entriesOf}
 use Rattle.log_item.specs.declared.LogItem.{LogItem}
-use Rattle.item_writer.specs.Bytes.{headBytes, tailsBytes}
-use Rattle.item_writer.specs.Refusing.{contentRefusal}
+use Rattle.log_item.specs.Bytes.{headBytes, tailsBytes}
+use Rattle.log_item.specs.Refusing.{contentRefusal}
 use Rattle.log_item.specs.Blank.{blankItem}
 use Rattle.list_measure.specs.Bytes.{itemsBytes}
 use Rattle.list_measure.specs.Refusing.{Verdict, fine, refused, unless, tailsVerdict, itemsVerdict}

@@ -8,8 +8,8 @@ use Rattle.log_item.specs.Blank.{blankItem, blankEntry}
 use Rattle.log_item.specs.Entries.{entriesOf}
 use Rattle.log_item.specs.declared.LogItem.{LogItem}
 use Rattle.log_item.specs.declared.EntryIndex.{EntryIndex}
-use Rattle.item_writer.specs.Bytes.{headBytes, tailsBytes}
-use Rattle.item_writer.specs.Answers.{rowLengths}
+use Rattle.log_item.specs.Bytes.{headBytes, tailsBytes}
+use Rattle.log_item.specs.Written.{rowLengths}
 
 -- the first n of a list, and d for each that it lacks, as reading outside an array would give
 abbrev pub firstRows : {A : Type 0} → A → ℕ → List A → List A

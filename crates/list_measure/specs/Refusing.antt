@@ -7,8 +7,8 @@ use lib.Dec.{ltb}
 use lib.ListN.{length, drop}
 use Rattle.log_item.specs.Entries.{entriesOf}
 use Rattle.log_item.specs.declared.LogItem.{LogItem}
-use Rattle.item_writer.specs.Refusing.{contentRefusal}
-use Rattle.item_writer.specs.Answers.{rowLengths}
+use Rattle.log_item.specs.Refusing.{contentRefusal}
+use Rattle.log_item.specs.Written.{rowLengths}
 
 -- the entry total; or a refusal's number and its item
 pub data Verdict : Type 0 where

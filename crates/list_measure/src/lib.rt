@@ -6,8 +6,8 @@ ghost use mathlib.Core.Path.{_≡_};
 ghost use Rattle.list_measure.specs.Bytes.{itemsOf, lengthsOf};
 ghost use Rattle.list_measure.specs.Refusing.{fine};
 ghost use Rattle.list_measure.specs.Answers.{measured, measuredOf, measureOf};
-use item_writer::Head;
 use log_item::EntryIndex;
+use log_item::Head;
 use log_item::LogItem;
 
 // The first refusal and its item; or number 0, the length of the body, footer included, and the sum of its entry lengths.
@@ -51,7 +51,7 @@ pub fn measure(
             tails -= 1;
         } else if i < item_count {
             let item = items[i];
-            match item_writer::measure(item, store, checked, j, rows) {
+            match LogItem::measure(item, store, checked, j, rows) {
                 Head::Refused(number) => {
                     return refuse(number, i);
                 }

@@ -16,8 +16,8 @@ use Rattle.words.specs.Write.{nextAt, placed}
 use Rattle.words.proofs.Words.{length-little}
 use Rattle.crc.specs.Crc.{crcOf}
 use Rattle.log_item.specs.declared.LogItem.{LogItem}
-use Rattle.item_writer.specs.Private.{Room, Stored}
-use Rattle.item_writer.proofs.Stores.{stored-at, stored-then, stored-length}
+use Rattle.log_item.specs.Private.{Room, Stored}
+use Rattle.log_item.proofs.Stores.{stored-at, stored-then, stored-length}
 use Rattle.list_measure.specs.declared.Measured.{Measured}
 use Rattle.list_writer.specs.declared.Encoded.{Encoded}
 use Rattle.list_measure.specs.Bytes.{itemsBytes, listBytes}

@@ -16,13 +16,13 @@ use Rattle.words.proofs.Words.{length-little}
 use Rattle.words.proofs.Writing.{next-of, place-of}
 use Rattle.crc.specs.Crc.{crcOf}
 use Rattle.log_item.specs.declared.LogItem.{LogItem}
-use Rattle.item_writer.specs.Bytes.{headBytes}
-use Rattle.item_writer.specs.Refusing.{contentInside}
-use Rattle.item_writer.specs.Answers.{partWrote}
-use Rattle.item_writer.specs.Private.{Room, Stored}
-use Rattle.item_writer.specs.declared.PartWrote.{PartWrote}
-use Rattle.item_writer.specs.declared.PartWrote.the-variants as part
-use Rattle.item_writer.proofs.Stores.{Answered, none-refused, stored-at}
+use Rattle.log_item.specs.Bytes.{headBytes}
+use Rattle.log_item.specs.Refusing.{contentInside}
+use Rattle.log_item.specs.Written.{partWrote}
+use Rattle.log_item.specs.Private.{Room, Stored}
+use Rattle.log_item.specs.declared.PartWrote.{PartWrote}
+use Rattle.log_item.specs.declared.PartWrote.the-variants as part
+use Rattle.log_item.proofs.Stores.{Answered, none-refused, stored-at}
 use Rattle.list_writer.specs.Pieces.{headRefusal, unlessRefused, headNext, headPlaced, footerOf, footerNext, footerPlaced}
 
 -- ---- an item up to its tails

@@ -12,11 +12,11 @@ use Rattle.numbers.specs.Shortest.{shortest}
 use Rattle.words.specs.Write.{nextAt, placed}
 use Rattle.log_item.specs.Entries.{entriesOf}
 use Rattle.log_item.specs.declared.LogItem.{LogItem}
-use Rattle.item_writer.specs.Bytes.{headBytes}
-use Rattle.item_writer.specs.Refusing.{contentRefusal, contentInside}
-use Rattle.item_writer.specs.Private.{Room, Stored}
-use Rattle.item_writer.proofs.Refusals.{content-inside, content-allowed}
-use Rattle.item_writer.proofs.Stores.{stored-none, stored-at, stored-then, stored-length, stored-same}
+use Rattle.log_item.specs.Bytes.{headBytes}
+use Rattle.log_item.specs.Refusing.{contentRefusal, contentInside}
+use Rattle.log_item.specs.Private.{Room, Stored}
+use Rattle.log_item.proofs.Refusals.{content-inside, content-allowed}
+use Rattle.log_item.proofs.Stores.{stored-none, stored-at, stored-then, stored-length, stored-same}
 use Rattle.log_item.specs.Blank.{blankItem}
 use Rattle.list_measure.specs.Bytes.{itemsBytes}
 use Rattle.list_measure.specs.Refusing.{fine, itemsVerdict}

@@ -10,9 +10,9 @@ use Rattle.words.specs.Word.{littleEndianBytes}
 use Rattle.words.specs.Write.{nextAt, placed}
 use Rattle.crc.specs.Crc.{crcOf}
 use Rattle.log_item.specs.declared.LogItem.{LogItem}
-use Rattle.item_writer.specs.Bytes.{headBytes}
-use Rattle.item_writer.specs.Refusing.{contentInside}
-use Rattle.item_writer.specs.Answers.{pieceRefusal, itemPlaced}
+use Rattle.log_item.specs.Bytes.{headBytes}
+use Rattle.log_item.specs.Refusing.{contentInside}
+use Rattle.log_item.specs.Written.{pieceRefusal, itemPlaced}
 
 -- an item up to its tails: 13, then 21
 abbrev pub headRefusal : List ℕ → LogItem → ℕ → ℕ → ℕ

@@ -14,9 +14,9 @@ ghost use Rattle.list_writer.specs.Bytes.{bodyBytes};
 ghost use Rattle.list_writer.specs.Answers.{encoded, encodedIn, encodedOf, laid};
 ghost use Rattle.list_writer.specs.Pieces.{headNext, headPlaced, footerNext, footerPlaced};
 use codec::Wrote;
-use item_writer::PartWrote;
 use log_item::EntryIndex;
 use log_item::LogItem;
+use log_item::PartWrote;
 
 // The refusal's number and item; or number 0 and how many bytes were written. A body has some; a whole batch has none where there are no
 // items and no content.
@@ -100,7 +100,7 @@ fn answer(number: u32, item: usize, length: usize) -> Encoded
 pub fn write_head(item: LogItem, store: &[u8], out: &mut [u8], at: usize) -> usize
     ensures { λ r. ⌜ (r ≡ headNext (now (store .entry)) item (length (now (out .entry))) at) × (now (out .exit) ≡ headPlaced (now (store .entry)) item (now (out .entry)) at) ⌝ }
 {
-    match item_writer::encode_head(item, store, out, at) {
+    match LogItem::encode_head(item, store, out, at) {
         PartWrote::Next(next) => next,
         PartWrote::Refused(_) => at,
     }

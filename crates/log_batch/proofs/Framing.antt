@@ -9,8 +9,8 @@ use lib.ListN.{length, take, drop, length-append}
 use lib.Seq.{sets-eq}
 use borrow.Author.Tests.{ne-eqb, le-leb}
 use Rattle.log_item.specs.declared.LogItem.{LogItem}
-use Rattle.item_writer.specs.Private.{Stored}
-use Rattle.item_writer.proofs.Stores.{stored-then, stored-length, stored-same}
+use Rattle.log_item.specs.Private.{Stored}
+use Rattle.log_item.proofs.Stores.{stored-then, stored-length, stored-same}
 use Rattle.list_measure.specs.declared.Measured.{Measured}
 use Rattle.list_measure.specs.Answers.{measureOf}
 use Rattle.list_writer.specs.declared.Encoded.{Encoded}

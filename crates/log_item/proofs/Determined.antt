@@ -1,6 +1,7 @@
--- No second answer: two results that meet one contract are equal.
+-- No second answer: two results, and two later contents of a lent buffer, that meet one contract are equal.
 -- Assumes nothing.
 use mathlib.Core.Path.{_≡_, sym, ap, _∙_}
+use denote.Ref.{now}
 use Rattle.one_answer.specs.OneAnswer.{OneAnswer}
 use Rattle.log_item.specs.Answers.{Passed, fieldGot, headGot, tailGot, itemGot}
 use Rattle.log_item.specs.declared.Field.{Field}
@@ -13,8 +14,6 @@ use Rattle.log_item.specs.declared.ItemRead.{ItemRead}
 use Rattle.log_item.specs.declared.ItemRead.the-variants as item
 use Rattle.log_item.proofs.LogItem.decode.Kinds as decode-kinds
 use Rattle.log_item.proofs.LogItem.decode.Reads as decode-reads
-use Rattle.log_item.proofs.LogItem.decode_form.Kinds as decode-form-kinds
-use Rattle.log_item.proofs.LogItem.decode_form.Reads as decode-form-reads
 use Rattle.log_item.proofs.LogItem.decode_head.Kinds as decode-head-kinds
 use Rattle.log_item.proofs.LogItem.decode_head.Reads as decode-head-reads
 use Rattle.log_item.proofs.LogItem.entries.Kinds as entries-kinds
@@ -23,6 +22,18 @@ use Rattle.log_item.proofs.EntryIndexes.decode_tail.Kinds as decode-tai
 use Rattle.log_item.proofs.EntryIndexes.decode_tail.Reads as decode-tail-reads
 use Rattle.log_item.proofs.entries.skip_tails.Kinds as skip-tails-kinds
 use Rattle.log_item.proofs.entries.skip_tails.Reads as skip-tails-reads
+use Rattle.log_item.proofs.Command.encode.Kinds as encode-command-kinds
+use Rattle.log_item.proofs.Command.encode.Reads as encode-command-reads
+use Rattle.log_item.proofs.KeyValue.encode.Kinds as encode-key-value-kinds
+use Rattle.log_item.proofs.KeyValue.encode.Reads as encode-key-value-reads
+use Rattle.log_item.proofs.EntryIndexes.encode.Kinds as encode-entry-indexes-kinds
+use Rattle.log_item.proofs.EntryIndexes.encode.Reads as encode-entry-indexes-reads
+use Rattle.log_item.proofs.LogItem.encode_head.Kinds as encode-head-kinds
+use Rattle.log_item.proofs.LogItem.encode_head.Reads as encode-head-reads
+use Rattle.log_item.proofs.LogItem.measure.Kinds as measure-kinds
+use Rattle.log_item.proofs.LogItem.measure.Reads as measure-reads
+use Rattle.log_item.proofs.LogItem.encode.Kinds as encode-kinds
+use Rattle.log_item.proofs.LogItem.encode.Reads as encode-reads
 use Rattle.log_item.proofs.piece.read_number.Kinds as read-number-kinds
 use Rattle.log_item.proofs.piece.read_number.Reads as read-number-reads
 use Rattle.log_item.proofs.prefix.starts_with.Kinds as starts-with-kinds
@@ -65,9 +76,6 @@ item-same (item.Refused r) (item.Refused x) e = cc
 pub decode : OneAnswer 1 decode-kinds.ps decode-kinds.r decode-reads.Post (λ κs x y s t. x ≡ y)
 decode κs a x y s t p q = item-same x y (p ∙ sym q)
 
-pub decode-form : OneAnswer 1 decode-form-kinds.ps decode-form-kinds.r decode-form-reads.Post (λ κs x y s t. x ≡ y)
-decode-form κs a x y s t p q = item-same x y (p ∙ sym q)
-
 pub decode-head : OneAnswer 1 decode-head-kinds.ps decode-head-kinds.r decode-head-reads.Post (λ κs x y s t. x ≡ y)
 decode-head κs a x y s t p q = head-same x y (p ∙ sym q)
 
@@ -91,3 +99,21 @@ is-internal-key κs a x y s t p q = p ∙ sym q
 
 pub starts-with : OneAnswer 2 starts-with-kinds.ps starts-with-kinds.r starts-with-reads.Post (λ κs x y s t. x ≡ y)
 starts-with κs a x y s t p q = p ∙ sym q
+
+pub measure : OneAnswer 1 measure-kinds.ps measure-kinds.r measure-reads.Post (λ κs x y s t. x ≡ y)
+measure κs a x y s t p q = p ∙ sym q
+
+pub encode-head : OneAnswer 2 encode-head-kinds.ps encode-head-kinds.r encode-head-reads.Post (λ κs x y s t. (x ≡ y) × (now (s .1 .1 .0) ≡ now (t .1 .1 .0)))
+encode-head κs a x y s t p q = (p .0 ∙ sym (q .0), p .1 ∙ sym (q .1))
+
+pub encode-command : OneAnswer 1 encode-command-kinds.ps encode-command-kinds.r encode-command-reads.Post (λ κs x y s t. (x ≡ y) × (now (s .1 .0) ≡ now (t .1 .0)))
+encode-command κs a x y s t p q = (p .0 ∙ sym (q .0), p .1 ∙ sym (q .1))
+
+pub encode-key-value : OneAnswer 2 encode-key-value-kinds.ps encode-key-value-kinds.r encode-key-value-reads.Post (λ κs x y s t. (x ≡ y) × (now (s .1 .1 .0) ≡ now (t .1 .1 .0)))
+encode-key-value κs a x y s t p q = (p .0 ∙ sym (q .0), p .1 ∙ sym (q .1))
+
+pub encode-entry-indexes : OneAnswer 1 encode-entry-indexes-kinds.ps encode-entry-indexes-kinds.r encode-entry-indexes-reads.Post (λ κs x y s t. (x ≡ y) × (now (s .1 .0) ≡ now (t .1 .0)))
+encode-entry-indexes κs a x y s t p q = (p .0 ∙ sym (q .0), p .1 ∙ sym (q .1))
+
+pub encode : OneAnswer 3 encode-kinds.ps encode-kinds.r encode-reads.Post (λ κs x y s t. (x ≡ y) × (now (s .1 .1 .1 .1 .0) ≡ now (t .1 .1 .1 .1 .0)))
+encode κs a x y s t p q = (p .0 ∙ sym (q .0), p .1 ∙ sym (q .1))

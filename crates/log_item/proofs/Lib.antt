@@ -12,4 +12,10 @@ pub mod Sound
 pub mod Forms
 pub mod Agree
 pub mod One
+pub mod Lengths
+pub mod Pieces
+pub mod Stores
+pub mod Tails
+pub mod Refusals
+pub mod Items
 pub mod Determined

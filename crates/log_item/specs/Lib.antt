@@ -8,3 +8,8 @@ pub mod Each
 pub mod Limits
 pub mod Spelling
 pub mod Place
+pub mod Bytes
+pub mod Refusing
+pub mod Written
+pub mod Relocated
+pub mod Private

@@ -1,9 +1,13 @@
-// One item of a log batch: its types, and reading it at a place of a lent body. From log_batch.rs, EntryIndexes to LogItem.
+// One item of a log batch: its types, reading it at a place of a lent body, and writing it at a place of a lent buffer. From log_batch.rs,
+// EntryIndexes to LogItem.
 //
 // Every public function takes any arguments: a place may lie anywhere, past the end too. A refusal is a number of document 01.
 mod entries;
+mod measuring;
 mod piece;
 mod prefix;
+mod refusing;
+mod writing;
 
 pub use entries::skip_tails;
 pub use piece::read_number;
@@ -100,6 +104,31 @@ pub enum Field {
     Refused(u32),
 }
 
+// The length of an item up to its tails, where all above 4,294,967,295 count as one more than that, and how many rows it uses; or why
+// it is refused.
+pub enum Head {
+    Fine { len: usize, count: usize },
+    Refused(u32),
+}
+
+// The place after a piece of an item; or why it is not written.
+pub enum PartWrote {
+    Next(usize),
+    Refused(u32),
+}
+
+// The place after an item and the total after it; or why it is not written.
+pub enum ItemWrote {
+    Next { next: usize, total: u32 },
+    Refused(u32),
+}
+
+// The length of tails and the total after them; or a tail is above 4,294,967,295.
+enum TailsSize {
+    Fine { len: usize, total: u32 },
+    TooLarge,
+}
+
 enum SpanRead {
     Done { span: Span, next: usize },
     Refused(u32),
@@ -134,18 +163,11 @@ impl LogItem {
     pub fn decode(buf: &[u8], at: usize, total: u32, used: usize) -> ItemRead
         ensures { λ r. ⌜ itemGot r ≡ passItem Form.Any (now (buf .entry)) used total at ⌝ }
     {
-        LogItem::decode_form(buf, at, total, used, Form::Any)
-    }
-
-    // The same where numbers are asked for in a form; what Form::Plain alone refuses, it refuses with 8.
-    pub fn decode_form(buf: &[u8], at: usize, total: u32, used: usize, form: Form) -> ItemRead
-        ensures { λ r. ⌜ itemGot r ≡ passItem form (now (buf .entry)) used total at ⌝ }
-    {
-        match LogItem::decode_head(buf, at, used, form) {
+        match LogItem::decode_head(buf, at, used, Form::Any) {
             HeadRead::Done { item, next } => {
                 let entries = item.entries();
                 let count = entries.count;
-                match skip_tails(buf, next, count, total, form) {
+                match skip_tails(buf, next, count, total, Form::Any) {
                     TailRead::Done {
                         total: after,
                         next: end,

@@ -33,15 +33,15 @@ use Rattle.log_item.specs.declared.EntryIndex.{EntryIndex}
 use Rattle.log_item.proofs.Place.{cut}
 use Rattle.log_item.proofs.Forms.{form-any}
 use Rattle.log_item.proofs.Complete.{complete-item}
-use Rattle.item_writer.specs.Bytes.{spanBytes, commandBytes, opBytes, entriesBytes, contentBytes, headBytes, tailsBytes}
+use Rattle.log_item.specs.Bytes.{spanBytes, commandBytes, opBytes, entriesBytes, contentBytes, headBytes, tailsBytes}
 use Rattle.log_item.specs.Prefix.{inside}
-use Rattle.item_writer.specs.Refusing.{opInside, contentInside, contentRefusal}
+use Rattle.log_item.specs.Refusing.{opInside, contentInside, contentRefusal}
 use Rattle.refusal.specs.First.{firstOf}
-use Rattle.item_writer.specs.Answers.{sumOf, rowLengths, itemBytes, itemRefusal}
-use Rattle.item_writer.specs.Relocated.{spanAt, keyAt, stated, contentAt, itemAt, rowsFrom, itemRows, spansOf, numbersOf, Small, Writable}
-use Rattle.item_writer.proofs.Lengths.{and-both, part-length, span-length}
-use Rattle.item_writer.proofs.Refusals.{untaken, taken, content-inside, content-allowed}
-use Rattle.item_writer.proofs.Tails.{tailsOf, sum-rises}
+use Rattle.log_item.specs.Written.{sumOf, rowLengths, itemBytes, itemRefusal}
+use Rattle.log_item.specs.Relocated.{spanAt, keyAt, stated, contentAt, itemAt, rowsFrom, itemRows, spansOf, numbersOf, Small, Writable}
+use Rattle.log_item.proofs.Lengths.{and-both, part-length, span-length}
+use Rattle.log_item.proofs.Refusals.{untaken, taken, content-inside, content-allowed}
+use Rattle.log_item.proofs.Tails.{tailsOf, sum-rises}
 
 -- ---- pieces
 

@@ -12,9 +12,9 @@ use borrow.Author.Tests.{eq-eqb, ne-eqb, le-leb, leb-true, ltb-false}
 use Rattle.numbers.specs.Shortest.{shortest}
 use Rattle.log_item.specs.Entries.{entriesOf}
 use Rattle.log_item.specs.declared.LogItem.{LogItem}
-use Rattle.item_writer.specs.Bytes.{headBytes, tailsBytes}
-use Rattle.item_writer.specs.Refusing.{contentRefusal}
-use Rattle.item_writer.specs.Answers.{sumOf, rowLengths, itemBytes}
+use Rattle.log_item.specs.Bytes.{headBytes, tailsBytes}
+use Rattle.log_item.specs.Refusing.{contentRefusal}
+use Rattle.log_item.specs.Written.{sumOf, rowLengths, itemBytes}
 use Rattle.list_measure.specs.declared.Measured.{Measured}
 use Rattle.list_writer.specs.declared.Encoded.{Encoded}
 use Rattle.list_measure.specs.Bytes.{itemsBytes, listBytes}

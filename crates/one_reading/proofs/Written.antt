@@ -37,10 +37,10 @@ use Rattle.log_item.proofs.Numbers.{in-any}
 use Rattle.log_item.proofs.Place.{cut, at-front}
 use Rattle.one_reading.proofs.ItemRows.{each-append, item-length}
 use Rattle.log_item.proofs.Sound.{sound-item}
-use Rattle.item_writer.specs.Refusing.{contentRefusal}
-use Rattle.item_writer.specs.Answers.{sumOf, rowLengths, itemBytes}
-use Rattle.item_writer.specs.Relocated.{stated, contentAt, itemAt, itemRows, numbersOf, Small, Writable}
-use Rattle.item_writer.proofs.Refusals.{content-inside, content-allowed}
+use Rattle.log_item.specs.Refusing.{contentRefusal}
+use Rattle.log_item.specs.Written.{sumOf, rowLengths, itemBytes}
+use Rattle.log_item.specs.Relocated.{stated, contentAt, itemAt, itemRows, numbersOf, Small, Writable}
+use Rattle.log_item.proofs.Refusals.{content-inside, content-allowed}
 use Rattle.one_reading.proofs.ItemWritten.{written-item, read-item-at, spans-kept}
 use Rattle.list_writer.specs.declared.Encoded.{Encoded}
 use Rattle.log_item.specs.Blank.{blankItem}

@@ -17,11 +17,11 @@ use Rattle.log_item.specs.declared.Op.the-variants.{Put, Del}
 use Rattle.log_item.specs.declared.LogItemContent.{LogItemContent}
 use Rattle.log_item.specs.declared.LogItemContent.the-variants as contents
 use Rattle.log_item.specs.declared.LogItem.{LogItem}
-use Rattle.item_writer.specs.Bytes.{spanBytes, commandBytes, opBytes, entriesBytes, contentBytes, headBytes, tailsBytes}
-use Rattle.item_writer.specs.Answers.{sumOf, rowLengths, itemBytes}
+use Rattle.log_item.specs.Bytes.{spanBytes, commandBytes, opBytes, entriesBytes, contentBytes, headBytes, tailsBytes}
+use Rattle.log_item.specs.Written.{sumOf, rowLengths, itemBytes}
 use Rattle.log_item.specs.Each.{one}
-use Rattle.item_writer.specs.Relocated.{numbersOf, Small}
-use Rattle.item_writer.proofs.Tails.{tailsOf, sum-rises}
+use Rattle.log_item.specs.Relocated.{numbersOf, Small}
+use Rattle.log_item.proofs.Tails.{tailsOf, sum-rises}
 
 -- each is below 256
 pub data AllBytes : List ℕ → Type 0 where

@@ -27,8 +27,8 @@ use Rattle.log_item.specs.declared.EntryIndex.{EntryIndex}
 use Rattle.log_item.specs.declared.EntryIndexes.{EntryIndexes}
 use Rattle.item_row.specs.Row.{itemWords, entryWords, itemsWords, entriesWords}
 use Rattle.item_row.proofs.Words.{item-length, items-length, entries-length, items-more, entries-more}
-use Rattle.item_writer.specs.Private.{Stored}
-use Rattle.item_writer.proofs.Stores.{stored-none, stored-then, stored-length, stored-same}
+use Rattle.log_item.specs.Private.{Stored}
+use Rattle.log_item.proofs.Stores.{stored-none, stored-then, stored-length, stored-same}
 use Rattle.body_check.specs.Reading.{Answer, accepted, rejected, readItems}
 use Rattle.item_batch.proofs.Rows.{rows-take, rows-length}
 use Rattle.item_batch.proofs.Coming.{prepend, rowOf, rest}

@@ -9,9 +9,10 @@ ghost use Rattle.item_row.specs.Row.{rowAt};
 ghost use Rattle.list_writer.specs.Answers.{encodedOf, laid};
 ghost use Rattle.rows_writer.specs.Rows.{measureRows, rowsBytes};
 use item_row::RowRead;
-use item_writer::Head;
 use list_writer::Encoded;
 use list_writer::Measured;
+use log_item::Head;
+use log_item::LogItem;
 
 // The first refusal of a body but 21, or its length and entry total.
 pub fn measure_rows(items: &[u64], entries: &[u64], store: &[u8], checked: bool) -> Measured
@@ -42,7 +43,7 @@ pub fn measure_rows(items: &[u64], entries: &[u64], store: &[u8], checked: bool)
                 RowRead::Refused(number) => {
                     return list_writer::refuse(number, i);
                 }
-                RowRead::Item(item) => match item_writer::measure(item, store, checked, j, rows) {
+                RowRead::Item(item) => match LogItem::measure(item, store, checked, j, rows) {
                     Head::Refused(number) => {
                         return list_writer::refuse(number, i);
                     }

@@ -1,5 +1,0 @@
-pub mod Bytes
-pub mod Refusing
-pub mod Answers
-pub mod Relocated
-pub mod Private

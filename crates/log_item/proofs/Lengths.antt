@@ -1,0 +1,125 @@
+-- The lengths of what is written, where the spans lie in the store.
+-- Assumes nothing.
+use Prim.Native.Nat.{ℕ, zero, suc, _+_, _-_, _≤_, _<_}
+use mathlib.Core.Path.{_≡_, refl, sym, ap, _∙_}
+use mathlib.Core.Bool.{Bool, true, false, _&&_}
+use mathlib.Core.List.{List, _∷_, _++_}
+use native.Mathlib.Omega.{arith}
+use lib.Dec.{leb}
+use lib.ListN.{length, take, drop, length-append, length-take, length-drop}
+use borrow.Author.Tests.{leb-true, leb-false, le-leb, lt-leb}
+use Rattle.numbers.specs.Shortest.{shortest, spell}
+use Rattle.log_item.proofs.Inside.{inside-bound}
+use Rattle.log_item.specs.Prefix.{bytesOf}
+use Rattle.log_item.specs.Entries.{typeOf}
+use Rattle.log_item.specs.declared.Span.{Span}
+use Rattle.log_item.specs.declared.Command.{Command}
+use Rattle.log_item.specs.declared.Command.the-variants.{Clean, Compact}
+use Rattle.log_item.specs.declared.Op.{Op}
+use Rattle.log_item.specs.declared.Op.the-variants.{Put, Del}
+use Rattle.log_item.specs.declared.EntryIndexes.{EntryIndexes}
+use Rattle.log_item.specs.declared.KeyValue.{KeyValue}
+use Rattle.log_item.specs.declared.LogItemContent.{LogItemContent}
+use Rattle.log_item.specs.declared.LogItemContent.the-variants as contents
+use Rattle.log_item.specs.declared.LogItem.{LogItem}
+use Rattle.log_item.specs.Bytes.{spanBytes, commandBytes, opBytes, entriesBytes, contentBytes, headBytes}
+use Rattle.log_item.specs.Prefix.{inside}
+use Rattle.log_item.specs.Refusing.{opInside, contentInside}
+use Rattle.log_item.specs.Private.{fitted, spanLength, opLength, contentLength, headLength}
+
+pub and-both : (a b : Bool) → (a && b) ≡ true → (a ≡ true) × (b ≡ true)
+and-both true b e = (refl, e)
+and-both false b e = let z : _≡_ {A = Bool} false true = e in let w : _≡_ {A = ℕ} 0 1 = cc in absurd (omega arith)
+
+-- The test for room.
+pub past-end : (all at len : ℕ) → all < at → false ≡ leb (at + len) all
+past-end all at len h = sym (lt-leb (at + len) all (omega arith))
+
+pub room-left : (all at len : ℕ) → at ≤ all → leb len (all - at) ≡ leb (at + len) all
+room-left all at len h = go (leb len (all - at)) refl
+  where
+    go : (t : Bool) → leb len (all - at) ≡ t → t ≡ leb (at + len) all
+    go true e = let l : len ≤ all - at = leb-true _ _ e in sym (le-leb (at + len) all (omega arith))
+    go false e = let l : all - at < len = leb-false _ _ e in sym (lt-leb (at + len) all (omega arith))
+
+module _ (s : List ℕ) where
+  pub part-length : (k : Span) → inside s k ≡ true → length (bytesOf s k) ≡ k .len
+  part-length k h = length-take (k .len) (drop (k .at) s) ∙ omega (arith, length-drop (k .at) s, inside-bound s k h)
+
+  pub span-length : (k : Span) → inside s k ≡ true → length (spanBytes s k) ≡ spanLength k
+  unfolding spanBytes
+  span-length k h = length-append (shortest (k .len)) (bytesOf s k) ∙ ap (λ (n : ℕ). length (shortest (k .len)) + n) (part-length k h)
+
+  pub op-length : (key : Span) (op : Op) → opInside s key op ≡ true → length (opBytes s key op) ≡ opLength key op
+  unfolding opBytes opLength
+  op-length key (Put v) h =
+      let i = and-both _ _ h in
+      omega (arith, length-append (spanBytes s key) (spanBytes s v), span-length key (i .0), span-length v (i .1))
+  op-length key Del h = omega (arith, span-length key h)
+
+  content-length : (k : LogItemContent) → contentInside s k ≡ true → length (contentBytes s k) ≡ contentLength k
+  unfolding contentBytes contentLength
+  content-length (contents.EntryIndexes e) h = refl
+  content-length (contents.Command c) h = refl
+  content-length (contents.Kv k) h = op-length (k .key) (k .op) h
+
+  pub head-length : (x : LogItem) → contentInside s (x .content) ≡ true → length (headBytes s x) ≡ headLength x
+  unfolding headBytes headLength
+  head-length x h =
+      omega (arith, length-append (shortest (x .«raft_group_id»)) (typeOf (x .content) ∷ contentBytes s (x .content)), content-length (x .content) h)
+
+-- The same as the code works them out.
+pub clean-len : {c : Command} → c ≡ Clean → 1 ≡ fitted (length (commandBytes c))
+unfolding commandBytes
+clean-len e = rw e
+
+pub compact-len : {c : Command} {i n r : ℕ} → c ≡ Compact i → n ≡ length (shortest i) → r ≡ fitted (1 + n) → r ≡ fitted (length (commandBytes c))
+unfolding commandBytes
+compact-len e p q = rw e (omega arith)
+
+pub entries-none : (n i : ℕ) → n ≡ 0 → entriesBytes n i ≡ shortest n
+unfolding entriesBytes
+entries-none n i e = rw e
+
+pub entries-some : (n i : ℕ) → (n ≡ 0 → ⊥) → entriesBytes n i ≡ shortest n ++ shortest i
+unfolding entriesBytes
+entries-some zero i h = absurd (h refl)
+entries-some (suc n) i h = refl
+
+pub none-len : (n i : ℕ) → n ≡ 0 → 1 ≡ fitted (length (entriesBytes n i))
+unfolding entriesBytes shortest spell
+none-len n i e = rw e
+
+pub some-len : (n i : ℕ) {a b r : ℕ} → (n ≡ 0 → ⊥) → a ≡ length (shortest n) → b ≡ length (shortest i) → r ≡ fitted (a + b) → r ≡ fitted (length (entriesBytes n i))
+some-len n i h p q v = rw (entries-some n i h) (omega (arith, length-append (shortest n) (shortest i)))
+
+module _ (key : Span) {op : Op} {a b : ℕ} (p : a ≡ fitted (spanLength key)) (q : b ≡ fitted (1 + a)) where
+  pub put-len : {v : Span} {x r : ℕ} → op ≡ Put v → x ≡ fitted (spanLength v) → r ≡ fitted (b + x) → r ≡ fitted (opLength key op)
+  unfolding opLength
+  put-len e u w = rw e (omega arith)
+
+  pub del-len : op ≡ Del → b ≡ fitted (opLength key op)
+  unfolding opLength
+  del-len e = rw e (omega arith)
+
+module _ {k : LogItemContent} {r : ℕ} where
+  pub entries-content-len : {e : EntryIndexes} → k ≡ contents.EntryIndexes e → r ≡ fitted (length (entriesBytes (e .count) (e .«first_index»))) → r ≡ fitted (contentLength k)
+  unfolding contentLength
+  entries-content-len p q = rw p q
+
+  pub command-content-len : {c : Command} → k ≡ contents.Command c → r ≡ fitted (length (commandBytes c)) → r ≡ fitted (contentLength k)
+  unfolding contentLength
+  command-content-len p q = rw p q
+
+  pub key-content-len : {v : KeyValue} → k ≡ contents.Kv v → r ≡ fitted (opLength (v .key) (v .op)) → r ≡ fitted (contentLength k)
+  unfolding contentLength
+  key-content-len p q = rw p q
+
+pub head-len : (x : LogItem) {a b c r : ℕ} → a ≡ length (shortest (x .«raft_group_id»)) → b ≡ fitted (contentLength (x .content)) → c ≡ fitted (1 + b) → r ≡ fitted (a + c)
+    → r ≡ fitted (headLength x)
+unfolding headLength
+head-len x p q u v = omega arith
+
+-- The part of the store that a span names, by its start and its end.
+pub part-named : (s : List ℕ) (k : Span) → take (k .at + k .len - k .at) (drop (k .at) s) ≡ bytesOf s k
+part-named s k = let e : k .at + k .len - k .at ≡ k .len = omega arith in rw e

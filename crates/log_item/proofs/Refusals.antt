@@ -1,0 +1,160 @@
+-- Which refusal each way out of the tests gives, and what holds where there is none.
+-- Assumes nothing.
+use Prim.Native.Nat.{ℕ, suc, _+_, _≤_, _<_}
+use mathlib.Core.Path.{_≡_, refl, sym, _∙_}
+use mathlib.Core.Bool.{Bool, true, false, cond, _&&_}
+use mathlib.Core.List.{List}
+use native.Mathlib.Omega.{arith}
+use lib.Dec.{ltb, leb}
+use borrow.Author.Tests.{ltb-false, lt-ltb, le-ltb}
+use Rattle.refusal.specs.First.{firstOf}
+use Rattle.log_item.specs.Entries.{entriesOf}
+use Rattle.log_item.specs.Prefix.{prefix, begins, bytesOf}
+use Rattle.log_item.specs.declared.Span.{Span}
+use Rattle.log_item.specs.declared.Op.{Op}
+use Rattle.log_item.specs.declared.Op.the-variants.{Put, Del}
+use Rattle.log_item.specs.declared.EntryIndexes.{EntryIndexes}
+use Rattle.log_item.specs.declared.Command.{Command}
+use Rattle.log_item.specs.declared.KeyValue.{KeyValue}
+use Rattle.log_item.specs.declared.LogItemContent.{LogItemContent}
+use Rattle.log_item.specs.declared.LogItemContent.the-variants as contents
+use Rattle.log_item.proofs.Lengths.{and-both}
+use Rattle.log_item.specs.Prefix.{inside}
+use Rattle.log_item.specs.Refusing.{opInside, spanRefusal, contentInside, entriesRefusal, keyRefusal, contentRefusal}
+use Rattle.log_item.specs.Written.{pieceRefusal}
+
+module _ (used rows : ℕ) (e : EntryIndexes) where
+  pub entries-14 : 1024 < used + e .count → 14 ≡ entriesRefusal used rows e
+  unfolding entriesRefusal
+  entries-14 h = rw (lt-ltb 1024 (used + e .count) h)
+
+  pub entries-13 : used + e .count ≤ 1024 → rows < used + e .count → 13 ≡ entriesRefusal used rows e
+  unfolding entriesRefusal
+  entries-13 h k = rw (le-ltb 1024 (used + e .count) h, lt-ltb rows (used + e .count) k)
+
+  pub entries-17 : used + e .count ≤ 1024 → used + e .count ≤ rows → 18446744073709551616 < e .«first_index» + e .count → 17 ≡ entriesRefusal used rows e
+  unfolding entriesRefusal
+  entries-17 h k l = rw (le-ltb 1024 (used + e .count) h, le-ltb rows (used + e .count) k, lt-ltb 18446744073709551616 (e .«first_index» + e .count) l)
+
+  pub entries-fine : used + e .count ≤ 1024 → used + e .count ≤ rows → e .«first_index» + e .count ≤ 18446744073709551616 → 0 ≡ entriesRefusal used rows e
+  unfolding entriesRefusal
+  entries-fine h k l = rw (le-ltb 1024 (used + e .count) h, le-ltb rows (used + e .count) k, le-ltb 18446744073709551616 (e .«first_index» + e .count) l)
+
+pub not-checked : (checked b : Bool) → checked ≡ false → false ≡ (checked && b)
+not-checked checked b e = rw e
+
+pub if-checked : (checked b : Bool) {r : Bool} → checked ≡ true → r ≡ b → r ≡ (checked && b)
+if-checked checked b e h = rw e h
+
+module _ (s : List ℕ) (key : Span) (op : Op) where
+  pub key-outside : inside s key ≡ false → false ≡ opInside s key op
+  key-outside h = go op
+    where
+      go : (o : Op) → false ≡ opInside s key o
+      go (Put v) = rw h
+      go Del = sym h
+
+  pub put-inside : {v : Span} {r : Bool} → op ≡ Put v → inside s key ≡ true → r ≡ inside s v → r ≡ opInside s key op
+  put-inside e h k = rw (e, h) k
+
+  pub delete-inside : op ≡ Del → inside s key ≡ true → true ≡ opInside s key op
+  delete-inside e h = rw (e, h)
+
+  pub put-both : {v : Span} → op ≡ Put v → opInside s key op ≡ true → (inside s key ≡ true) × (inside s v ≡ true)
+  put-both {v} e h = and-both (inside s key) (inside s v) (rw e at h)
+
+  pub delete-one : op ≡ Del → opInside s key op ≡ true → inside s key ≡ true
+  delete-one e h = rw e at h
+
+module _ (s : List ℕ) (k : LogItemContent) {v : KeyValue} (p : k ≡ contents.Kv v) where
+  pub key-content-inside : {r : Bool} → r ≡ opInside s (v .key) (v .op) → r ≡ contentInside s k
+  key-content-inside h = rw p h
+
+  pub content-key-inside : contentInside s k ≡ true → opInside s (v .key) (v .op) ≡ true
+  content-key-inside h = rw p at h
+
+module _ (s : List ℕ) (checked : Bool) (key : Span) (op : Op) where
+  pub key-13 : opInside s key op ≡ false → 13 ≡ keyRefusal s checked key op
+  unfolding keyRefusal
+  key-13 h = rw h
+
+  module _ (h : opInside s key op ≡ true) where
+    pub key-delete : op ≡ Del → 0 ≡ keyRefusal s checked key op
+    unfolding keyRefusal
+    key-delete e = rw (h, e)
+
+    pub key-23 : {v : Span} {r : Bool} → op ≡ Put v → r ≡ (checked && begins (bytesOf s key) prefix) → r ≡ true → 23 ≡ keyRefusal s checked key op
+    unfolding keyRefusal
+    key-23 {v} e p q = let z : (checked && begins (bytesOf s key) prefix) ≡ true = sym p ∙ q in rw (h, e, z)
+
+    pub key-fine : {v : Span} {r : Bool} → op ≡ Put v → r ≡ (checked && begins (bytesOf s key) prefix) → r ≡ false → 0 ≡ keyRefusal s checked key op
+    unfolding keyRefusal
+    key-fine {v} e p q = let z : (checked && begins (bytesOf s key) prefix) ≡ false = sym p ∙ q in rw (h, e, z)
+
+module _ (s : List ℕ) (checked : Bool) (used rows : ℕ) (k : LogItemContent) where
+  pub entries-refused : {e : EntryIndexes} {r : ℕ} → k ≡ contents.EntryIndexes e → r ≡ entriesRefusal used rows e → r ≡ contentRefusal s checked used rows k
+  unfolding contentRefusal
+  entries-refused p q = rw p q
+
+  pub command-refused : {c : Command} → k ≡ contents.Command c → 0 ≡ contentRefusal s checked used rows k
+  unfolding contentRefusal
+  command-refused p = rw p
+
+  pub key-refused : {v : KeyValue} {r : ℕ} → k ≡ contents.Kv v → r ≡ keyRefusal s checked (v .key) (v .op) → r ≡ contentRefusal s checked used rows k
+  unfolding contentRefusal
+  key-refused p q = rw p q
+
+-- A piece of an item.
+module _ (lies : Bool) (at n all : ℕ) where
+  pub piece-13 : lies ≡ false → 13 ≡ pieceRefusal lies at n all
+  unfolding pieceRefusal
+  piece-13 h = rw h
+
+  pub piece-21 : lies ≡ true → leb (at + n) all ≡ false → 21 ≡ pieceRefusal lies at n all
+  unfolding pieceRefusal
+  piece-21 h k = rw (h, k)
+
+  pub piece-fits : lies ≡ true → leb (at + n) all ≡ true → 0 ≡ pieceRefusal lies at n all
+  unfolding pieceRefusal
+  piece-fits h k = rw (h, k)
+
+-- A test that refuses did not.
+pub untaken : (t : Bool) (r rest : ℕ) → cond t (suc r) rest ≡ 0 → (t ≡ false) × (rest ≡ 0)
+untaken true r rest e = absurd (omega arith)
+untaken false r rest e = (refl, e)
+
+pub taken : (t : Bool) (r rest : ℕ) → cond t rest (suc r) ≡ 0 → (t ≡ true) × (rest ≡ 0)
+taken true r rest e = (refl, e)
+taken false r rest e = absurd (omega arith)
+
+-- Spans that are not refused lie in the store, and what follows does not refuse.
+pub all-inside : (b : Bool) (rest : ℕ) → firstOf (spanRefusal b) rest ≡ 0 → (b ≡ true) × (rest ≡ 0)
+all-inside true rest e = (refl, e)
+all-inside false rest e = absurd (omega arith)
+
+module _ (s : List ℕ) (checked : Bool) (used rows : ℕ) where
+  -- What holds of the entries of a content that is not refused.
+  pub record Allowed (e : EntryIndexes) : Type 0 where
+    pub few : used ≤ 1024 → used + e .count ≤ 1024
+    pub lent : used ≤ rows → used + e .count ≤ rows
+    pub last : e .«first_index» + e .count ≤ 18446744073709551616
+
+  pub content-inside : (k : LogItemContent) → contentRefusal s checked used rows k ≡ 0 → contentInside s k ≡ true
+  unfolding contentRefusal keyRefusal
+  content-inside (contents.EntryIndexes e) h = refl
+  content-inside (contents.Command c) h = refl
+  content-inside (contents.Kv k) h = all-inside (opInside s (k .key) (k .op)) _ h .0
+
+  pub content-allowed : (k : LogItemContent) → contentRefusal s checked used rows k ≡ 0 → Allowed (entriesOf k)
+  unfolding contentRefusal entriesRefusal
+  content-allowed (contents.EntryIndexes e) h =
+      let n : ℕ = used + e .count in
+      let c : ℕ = cond (ltb 18446744073709551616 (e .«first_index» + e .count)) 17 0 in
+      let a = untaken (ltb 1024 n) 13 (cond (ltb rows n) 13 c) h in
+      let b = untaken (ltb rows n) 12 c (a .1) in
+      let d = untaken (ltb 18446744073709551616 (e .«first_index» + e .count)) 16 0 (b .1) in
+      let x = ltb-false _ _ (a .0) in
+      let y = ltb-false _ _ (b .0) in
+      record { few = λ u. x; lent = λ u. y; last = ltb-false _ _ (d .0) }
+  content-allowed (contents.Command c) h = record { few = λ u. omega arith; lent = λ u. omega arith; last = omega arith }
+  content-allowed (contents.Kv k) h = record { few = λ u. omega arith; lent = λ u. omega arith; last = omega arith }

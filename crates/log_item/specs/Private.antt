@@ -1,0 +1,52 @@
+-- What the contracts of private functions cite: this file serves them alone, and no public contract.
+-- Assumes nothing.
+use Prim.Native.Nat.{ℕ, _+_, _≤_, min}
+use mathlib.Core.Path.{_≡_}
+use mathlib.Core.Bool.{cond}
+use mathlib.Core.List.{List, []}
+use lib.Dec.{ltb}
+use lib.ListN.{length}
+use lib.Seq.{sets}
+use Rattle.numbers.specs.Shortest.{shortest}
+use Rattle.log_item.specs.declared.Span.{Span}
+use Rattle.log_item.specs.declared.Op.{Op}
+use Rattle.log_item.specs.declared.Op.the-variants.{Put, Del}
+use Rattle.log_item.specs.declared.LogItemContent.{LogItemContent}
+use Rattle.log_item.specs.declared.LogItemContent.the-variants as contents
+use Rattle.log_item.specs.declared.LogItem.{LogItem}
+use Rattle.log_item.specs.Bytes.{entriesBytes, commandBytes, tailsBytes}
+use Rattle.log_item.specs.Written.{sumOf}
+use Rattle.log_item.specs.declared.TailsSize.{TailsSize}
+use Rattle.log_item.specs.declared.TailsSize.the-variants.{Fine, TooLarge}
+
+-- bytes fit from a place on
+pub record Room (out : List ℕ) (at : ℕ) (bs : List ℕ) : Type 0 where
+  pub fits : at + length bs ≤ length out
+
+-- bytes are stored from a place on, and `next` is the place after them
+pub record Stored (out : List ℕ) (at : ℕ) (bs : List ℕ) (next : ℕ) (later : List ℕ) : Type 0 where
+  pub after : next ≡ at + length bs
+  pub stored : later ≡ sets out at bs
+
+-- a number, where all above the largest of 64 bits count as that one
+abbrev pub fitted : ℕ → ℕ
+fitted n = min n 18446744073709551615
+
+-- lengths where the spans lie in the store
+abbrev pub spanLength : Span → ℕ
+spanLength k = length (shortest (k .len)) + k .len
+
+unfoldable pub opLength : Span → Op → ℕ
+opLength key (Put v) = 1 + spanLength key + spanLength v
+opLength key Del = 1 + spanLength key
+
+unfoldable pub contentLength : LogItemContent → ℕ
+contentLength (contents.EntryIndexes e) = length (entriesBytes (e .count) (e .«first_index»))
+contentLength (contents.Command c) = length (commandBytes c)
+contentLength (contents.Kv k) = opLength (k .key) (k .op)
+
+unfoldable pub headLength : LogItem → ℕ
+headLength x = length (shortest (x .«raft_group_id»)) + (1 + contentLength (x .content))
+
+unfoldable pub tailsSize : List ℕ → ℕ → TailsSize
+tailsSize lengths t = cond (ltb 4294967295 (sumOf t lengths)) TooLarge (Fine (fitted (length (tailsBytes lengths t (λ u. [])))) (sumOf t lengths))

@@ -1,0 +1,75 @@
+-- What the writers of items answer, and what they leave in the buffer.
+-- Assumes nothing.
+use Prim.Native.Nat.{ℕ, zero, suc, _+_, min}
+use mathlib.Core.Bool.{Bool, false, cond}
+use mathlib.Core.List.{List, [], _∷_, _++_}
+use lib.Dec.{ltb, leb}
+use lib.ListN.{length, take}
+use Rattle.refusal.specs.First.{firstOf}
+use Rattle.words.specs.Write.{placed}
+use Rattle.log_item.specs.Entries.{entriesOf}
+use Rattle.log_item.specs.declared.LogItem.{LogItem}
+use Rattle.log_item.specs.Bytes.{headBytes, tailsBytes}
+use Rattle.log_item.specs.Refusing.{spanRefusal, contentRefusal}
+use Rattle.log_item.specs.declared.Head.{Head}
+use Rattle.log_item.specs.declared.Head.the-variants as head
+use Rattle.log_item.specs.declared.PartWrote.{PartWrote}
+use Rattle.log_item.specs.declared.PartWrote.the-variants as part
+use Rattle.log_item.specs.declared.ItemWrote.{ItemWrote}
+use Rattle.log_item.specs.declared.ItemWrote.the-variants as item
+
+-- a length, where all above 4,294,967,295 count as one more than that
+abbrev pub capped : ℕ → ℕ
+capped n = min n 4294967296
+
+abbrev pub headOf : ℕ → ℕ → ℕ → Head
+headOf zero len count = head.Fine len count
+headOf (suc r) len count = head.Refused (suc r)
+
+-- the first refusal of an item but 16, or its length up to its tails and how many rows it uses
+unfoldable pub measureItem : List ℕ → Bool → ℕ → ℕ → LogItem → Head
+measureItem s checked used rows x =
+    headOf (contentRefusal s checked used rows (x .content)) (capped (length (headBytes s x))) (entriesOf (x .content) .count)
+
+-- 21 where n bytes from the place `at` on do not fit among `all`
+abbrev pub roomRefusal : ℕ → ℕ → ℕ → ℕ
+roomRefusal at n all = cond (leb (at + n) all) 0 21
+
+-- of a piece of an item, whose spans lie in the store or not: 13, then 21
+unfoldable pub pieceRefusal : Bool → ℕ → ℕ → ℕ → ℕ
+pieceRefusal lies at n all = firstOf (spanRefusal lies) (roomRefusal at n all)
+
+-- the place after the piece, or the refusal
+abbrev pub partWrote : ℕ → ℕ → PartWrote
+partWrote zero next = part.Next next
+partWrote (suc r) next = part.Refused (suc r)
+
+-- the sum of lengths behind a total
+unfoldable pub sumOf : ℕ → List ℕ → ℕ
+sumOf t [] = t
+sumOf t (n ∷ lengths) = sumOf (t + n) lengths
+
+-- the lengths of an item's rows: the first of those lent
+abbrev pub rowLengths : LogItem → List ℕ → List ℕ
+rowLengths x lengths = take (entriesOf (x .content) .count) lengths
+
+-- the item and its tails
+unfoldable pub itemBytes : List ℕ → LogItem → List ℕ → ℕ → List ℕ
+itemBytes s x lengths t = headBytes s x ++ tailsBytes (rowLengths x lengths) t (λ u. [])
+
+-- 14, 13, 17 or 13, then 16, then 21
+unfoldable pub itemRefusal : List ℕ → LogItem → List ℕ → ℕ → List ℕ → ℕ → ℕ
+itemRefusal s x lengths t out at =
+    firstOf (contentRefusal s false 0 (length lengths) (x .content))
+    (cond (ltb 4294967295 (sumOf t (rowLengths x lengths))) 16
+    (roomRefusal at (length (itemBytes s x lengths t)) (length out)))
+
+-- the place after the item and the total after it, or the refusal
+abbrev pub itemWrote : ℕ → ℕ → ℕ → ItemWrote
+itemWrote zero next total = item.Next next total
+itemWrote (suc r) next total = item.Refused (suc r)
+
+-- the buffer with the bytes at the place; nothing is written where there is a refusal
+abbrev pub itemPlaced : ℕ → List ℕ → ℕ → List ℕ → List ℕ
+itemPlaced zero out at bs = placed out at bs
+itemPlaced (suc r) out at bs = out
