@@ -6,8 +6,8 @@ use mathlib.Core.Bool.{Bool, true, false}
 use mathlib.Core.List.{List, [], _∷_, _++_}
 use borrow.Author.Tests.{eq-eqb, ne-eqb}
 use lib.ListN.{getD}
-use Rattle.log_item.specs.Prefix.{prefix, begins, bytesOf}
-use Rattle.log_item.specs.declared.Span.{Span}
+use Rattle.field.specs.Prefix.{prefix, begins, bytesOf}
+use Rattle.field.specs.declared.Span.{Span}
 use Rattle.log_item.specs.declared.Op.the-variants.{Put, Del}
 use Rattle.log_item.specs.declared.Command.{Command}
 use Rattle.log_item.specs.declared.EntryIndexes.{EntryIndexes}
@@ -17,7 +17,7 @@ use Rattle.log_item.specs.declared.LogItem.{LogItem}
 use Rattle.atomic_status.specs.declared.AtomicGroupStatus.the-variants.{Begin, Middle, End}
 use Rattle.atomic_status.specs.declared.StatusRead.{StatusRead}
 use Rattle.atomic_status.specs.declared.StatusRead.the-variants.{Mark, NoMark, Refused}
-use Rattle.log_item.specs.Prefix.{inside}
+use Rattle.field.specs.Prefix.{inside}
 use Rattle.atomic_status.specs.Status.{isMark, statusByte, markOf, statusOf}
 
 -- ---- the key of a mark

@@ -5,8 +5,8 @@ use mathlib.Core.Bool.{Bool, cond, _&&_}
 use mathlib.Core.List.{List, [], _∷_, _++_}
 use lib.Dec.{eqb}
 use lib.ListN.{getD}
-use Rattle.log_item.specs.Prefix.{prefix, begins, bytesOf, inside}
-use Rattle.log_item.specs.declared.Span.{Span}
+use Rattle.field.specs.Prefix.{prefix, begins, bytesOf, inside}
+use Rattle.field.specs.declared.Span.{Span}
 use Rattle.log_item.specs.declared.Op.{Op}
 use Rattle.log_item.specs.declared.Op.the-variants.{Put, Del}
 use Rattle.log_item.specs.declared.LogItemContent.{LogItemContent}

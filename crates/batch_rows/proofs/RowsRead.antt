@@ -4,9 +4,9 @@ use Prim.Native.Nat.{ℕ, _-_}
 use mathlib.Core.Path.{_≡_, refl, sym, ap, _∙_}
 use mathlib.Core.List.{List}
 use lib.ListN.{take, drop}
-use Rattle.log_item.specs.Got.{got, refused}
-use Rattle.log_item.specs.declared.Form.the-variants.{Any}
-use Rattle.log_item.specs.declared.Span.{Span}
+use Rattle.field.specs.Got.{got, refused}
+use Rattle.field.specs.declared.Form.the-variants.{Any}
+use Rattle.field.specs.declared.Span.{Span}
 use Rattle.refusal.specs.declared.Refusal.{Refusal}
 use Rattle.body_check.specs.declared.BodyCheck.{BodyCheck}
 use Rattle.body_check.specs.declared.BodyCheck.the-variants.{Accepted, Refused}

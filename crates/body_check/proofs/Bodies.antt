@@ -3,7 +3,7 @@
 use Prim.Native.Nat.{ℕ, zero, suc}
 use mathlib.Core.Path.{_≡_, refl}
 use mathlib.Core.List.{List}
-use Rattle.log_item.specs.declared.Form.the-variants.{Any}
+use Rattle.field.specs.declared.Form.the-variants.{Any}
 use Rattle.seal.specs.Seal.{sealedPart, sealCheck}
 use Rattle.body_check.specs.Reading.{rejected, readItems}
 use Rattle.body_check.specs.Body.{unless, readBody}

@@ -7,12 +7,13 @@ use native.Mathlib.Omega.{arith}
 use native.Mathlib.Nat.{add-zero, zero-add}
 use borrow.Author.Tests.{le-leb, lt-leb}
 use lib.ListN.{length, length-append}
-use Rattle.log_item.specs.Got.{Got, got, refused, done, bind}
-use Rattle.log_item.specs.Reading.{Read, number, oneItem}
+use Rattle.field.specs.Got.{Got, got, refused, done, bind}
+use Rattle.log_item.specs.Reading.{Read, oneItem}
+use Rattle.field.specs.Reading.{number}
 use Rattle.log_item.specs.Answers.{Passed, passItem}
 use Rattle.refusal.specs.declared.Refusal.{Refusal}
-use Rattle.log_item.specs.declared.Form.{Form}
-use Rattle.log_item.specs.declared.Form.the-variants.{Plain}
+use Rattle.field.specs.declared.Form.{Form}
+use Rattle.field.specs.declared.Form.the-variants.{Plain}
 use Rattle.log_item.specs.declared.LogItem.{LogItem}
 use Rattle.log_item.specs.declared.EntryIndex.{EntryIndex}
 use Rattle.body_check.specs.declared.BodyCheck.{BodyCheck}

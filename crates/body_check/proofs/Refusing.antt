@@ -10,10 +10,11 @@ use lib.ListN.{length}
 use Rattle.numbers.specs.Number.{readNumber}
 use Rattle.numbers.specs.declared.NumberRead.{NumberRead}
 use Rattle.numbers.specs.declared.NumberRead.the-variants.{Done, Eof, Overflow}
-use Rattle.log_item.specs.Got.{Got, got, refused, Reading, bind, _>>_, _else_}
+use Rattle.field.specs.Got.{Got, got, refused, Reading, bind, _>>_, _else_}
 use Rattle.log_item.specs.Entries.{entriesOf}
-use Rattle.log_item.specs.Reading.{Read, numberGot, byte, number, span, command, putAt, keyValue, firstIndex, entryIndexes, content, head, tail, tails, oneItem}
-use Rattle.log_item.specs.declared.Form.the-variants.{Any}
+use Rattle.log_item.specs.Reading.{Read, command, putAt, keyValue, firstIndex, entryIndexes, content, head, tail, tails, oneItem}
+use Rattle.field.specs.Reading.{numberGot, byte, number, span}
+use Rattle.field.specs.declared.Form.the-variants.{Any}
 use Rattle.log_item.specs.declared.LogItem.{LogItem}
 use Rattle.log_item.specs.declared.EntryIndex.{EntryIndex}
 use Rattle.seal.specs.Seal.{sealedPart, sealCheck}

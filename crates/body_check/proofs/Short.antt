@@ -8,11 +8,11 @@ use lib.ListN.{length, getD}
 use Rattle.numbers.specs.Number.{readNumber}
 use Rattle.numbers.specs.declared.NumberRead.the-variants.{Done}
 use Rattle.numbers.proofs.Reading.{first-long, turn-last, turn-more}
-use Rattle.log_item.specs.Got.{got}
-use Rattle.log_item.specs.Reading.{number}
-use Rattle.log_item.specs.declared.Form.{Form}
-use Rattle.log_item.specs.declared.Form.the-variants.{Any}
-use Rattle.log_item.proofs.Fields.{number-any}
+use Rattle.field.specs.Got.{got}
+use Rattle.field.specs.Reading.{number}
+use Rattle.field.specs.declared.Form.{Form}
+use Rattle.field.specs.declared.Form.the-variants.{Any}
+use Rattle.field.proofs.Fields.{number-any}
 
 module _ {form : Form} (any : form ≡ Any) (s : List ℕ) (at a b : ℕ) (room : at + 2 < length s) (ea : a ≡ getD s at 0) (eb : b ≡ getD s (at + 1) 0) (more : 128 ≤ a) where
   pub two : b < 128 → got (a - 128 + (b * 2 ^ 7) % 2 ^ 64) (at + 2) ≡ number form s at

@@ -3,7 +3,7 @@
 use Prim.Native.Nat.{ℕ}
 use mathlib.Core.List.{List}
 use lib.ListN.{length}
-use Rattle.log_item.specs.declared.Form.the-variants.{Plain}
+use Rattle.field.specs.declared.Form.the-variants.{Plain}
 use Rattle.body_check.specs.declared.BodyCheck.{BodyCheck}
 use Rattle.body_check.specs.declared.BodyCheck.the-variants as check
 use Rattle.body_check.specs.declared.PlainForm.{PlainForm}

@@ -2,7 +2,7 @@
 -- Assumes nothing.
 use Prim.Native.Nat.{ℕ, zero, suc}
 use mathlib.Core.List.{List}
-use Rattle.log_item.specs.declared.Form.the-variants.{Any}
+use Rattle.field.specs.declared.Form.the-variants.{Any}
 use Rattle.body_check.specs.Reading.{Answer, rejected, readItems}
 use Rattle.seal.specs.Seal.{sealedPart, sealCheck}
 

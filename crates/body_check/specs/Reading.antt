@@ -4,9 +4,10 @@ use Prim.Native.Nat.{ℕ, zero, suc, _+_}
 use mathlib.Core.List.{List, [], _∷_, _++_}
 use lib.Dec.{leb}
 use lib.ListN.{length}
-use Rattle.log_item.specs.Got.{Got, got, refused, Reading, done, bind, _>>=_, _>>_, Test, _else_}
-use Rattle.log_item.specs.Reading.{Read, number, oneItem}
-use Rattle.log_item.specs.declared.Form.{Form}
+use Rattle.field.specs.Got.{Got, got, refused, Reading, done, bind, _>>=_, _>>_, Test, _else_}
+use Rattle.log_item.specs.Reading.{Read, oneItem}
+use Rattle.field.specs.Reading.{number}
+use Rattle.field.specs.declared.Form.{Form}
 use Rattle.log_item.specs.declared.LogItem.{LogItem}
 use Rattle.log_item.specs.declared.EntryIndex.{EntryIndex}
 

@@ -1,8 +1,10 @@
 // What a body holds, without a table: reading it item by item, and whether each of its numbers has the shortest spelling. From log_batch.rs,
 // LogItemBatch::decode.
 ghost use mathlib.Core.Path.{_≡_};
-ghost use Rattle.log_item.specs.Reading.{number, tail};
-ghost use Rattle.log_item.specs.Answers.{fieldGot, tailGot, itemGot, passTails, passItem};
+ghost use Rattle.field.specs.Reading.{number};
+ghost use Rattle.log_item.specs.Reading.{tail};
+ghost use Rattle.field.specs.Answers.{fieldGot};
+ghost use Rattle.log_item.specs.Answers.{tailGot, itemGot, passTails, passItem};
 ghost use Rattle.body_check.specs.Reading.{items, readItems};
 ghost use Rattle.body_check.specs.Body.{readBody};
 ghost use Rattle.body_check.specs.Answers.{checkOf, plainBody};

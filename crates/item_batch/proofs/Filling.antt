@@ -14,10 +14,11 @@ use Rattle.numbers.specs.Number.{readNumber}
 use Rattle.numbers.specs.declared.NumberRead.{NumberRead}
 use Rattle.numbers.specs.declared.NumberRead.the-variants.{Done, Eof, Overflow}
 use Rattle.numbers.proofs.NumberRead.{the-type}
-use Rattle.log_item.specs.Got.{got, refused}
+use Rattle.field.specs.Got.{got, refused}
 use Rattle.log_item.specs.Entries.{entriesOf}
-use Rattle.log_item.specs.Reading.{numberGot, number, head, tail, tails}
-use Rattle.log_item.specs.declared.Form.the-variants.{Any}
+use Rattle.field.specs.Reading.{numberGot, number}
+use Rattle.log_item.specs.Reading.{head, tail, tails}
+use Rattle.field.specs.declared.Form.the-variants.{Any}
 use Rattle.log_item.specs.declared.LogItem.{LogItem}
 use Rattle.log_item.specs.declared.EntryIndex.{EntryIndex}
 use Rattle.log_item.specs.declared.EntryIndexes.{EntryIndexes}

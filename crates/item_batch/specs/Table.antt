@@ -4,7 +4,7 @@ use Prim.Native.Nat.{ℕ, _-_}
 use mathlib.Core.List.{List, _++_}
 use lib.ListN.{length, replicate}
 use Rattle.log_item.specs.Blank.{blankItem, blankEntry}
-use Rattle.log_item.specs.declared.Span.{Span}
+use Rattle.field.specs.declared.Span.{Span}
 use Rattle.item_batch.specs.declared.LogItemBatch.{LogItemBatch}
 use Rattle.body_check.specs.Reading.{Answer, accepted, rejected}
 

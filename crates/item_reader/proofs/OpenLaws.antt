@@ -6,9 +6,9 @@ use mathlib.Core.List.{List}
 use native.Mathlib.Omega.{arith}
 use lib.ListN.{length, take}
 use Rattle.refusal.specs.declared.Refusal.{Refusal}
-use Rattle.log_item.specs.Got.{got, refused}
-use Rattle.log_item.specs.Reading.{number}
-use Rattle.log_item.specs.declared.Form.the-variants.{Any}
+use Rattle.field.specs.Got.{got, refused}
+use Rattle.field.specs.Reading.{number}
+use Rattle.field.specs.declared.Form.the-variants.{Any}
 use Rattle.body_check.specs.declared.BodyCheck.the-variants.{Accepted, Refused}
 use Rattle.body_check.specs.Reading.{Answer, accepted, rejected}
 use Rattle.body_check.specs.Body.{readBody}

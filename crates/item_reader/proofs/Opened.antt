@@ -8,10 +8,10 @@ use native.Mathlib.Omega.{arith}
 use lib.Dec.{leb}
 use lib.ListN.{length, take}
 use lib.Seq.{take-append-seam}
-use Rattle.log_item.specs.Got.{Got, got, refused, done, bind, _>>_, _else_}
-use Rattle.log_item.specs.Reading.{number}
-use Rattle.log_item.specs.declared.Form.the-variants.{Any}
-use Rattle.log_item.specs.declared.Span.{Span}
+use Rattle.field.specs.Got.{Got, got, refused, done, bind, _>>_, _else_}
+use Rattle.field.specs.Reading.{number}
+use Rattle.field.specs.declared.Form.the-variants.{Any}
+use Rattle.field.specs.declared.Span.{Span}
 use Rattle.log_item.specs.declared.LogItem.{LogItem}
 use Rattle.log_item.specs.declared.EntryIndex.{EntryIndex}
 use Rattle.seal.specs.Seal.{sealedPart, sealCheck}

@@ -7,7 +7,7 @@ use native.Mathlib.Nat.{zero-add}
 use native.Mathlib.Omega.{arith}
 use lib.ListN.{length, take, getD}
 use denote.Ref.{RefT, now}
-use Rattle.log_item.specs.declared.Span.{Span}
+use Rattle.field.specs.declared.Span.{Span}
 use Rattle.log_item.specs.declared.LogItem.{LogItem}
 use Rattle.log_item.specs.declared.EntryIndex.{EntryIndex}
 use Rattle.seal.specs.Seal.{sealedPart}

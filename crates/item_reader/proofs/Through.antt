@@ -6,10 +6,10 @@ use mathlib.Core.List.{List, [], _∷_, _++_}
 use native.Mathlib.Omega.{arith}
 use lib.ListN.{length}
 use denote.Ref.{now}
-use Rattle.log_item.specs.Got.{Got, got, refused, done, bind}
+use Rattle.field.specs.Got.{Got, got, refused, done, bind}
 use Rattle.log_item.specs.Entries.{entriesOf}
 use Rattle.log_item.specs.Reading.{Read, head, tail, tails, oneItem}
-use Rattle.log_item.specs.declared.Form.the-variants.{Any}
+use Rattle.field.specs.declared.Form.the-variants.{Any}
 use Rattle.log_item.specs.declared.LogItem.{LogItem}
 use Rattle.log_item.specs.declared.EntryIndex.{EntryIndex}
 use Rattle.log_item.proofs.Known.{head-known}

@@ -6,10 +6,10 @@ use mathlib.Core.List.{List}
 use lib.Dec.{ltb}
 use lib.ListN.{length}
 use Rattle.refusal.specs.declared.Refusal.{Refusal}
-use Rattle.log_item.specs.Got.{Got, got, refused, Reading, done, here, bind, _>>=_}
+use Rattle.field.specs.Got.{Got, got, refused, Reading, done, here, bind, _>>=_}
 use Rattle.log_item.specs.Entries.{entriesOf}
 use Rattle.log_item.specs.Reading.{head, tails}
-use Rattle.log_item.specs.declared.Form.the-variants.{Any}
+use Rattle.field.specs.declared.Form.the-variants.{Any}
 use Rattle.log_item.specs.declared.LogItem.{LogItem}
 use Rattle.log_item.specs.declared.EntryIndexes.{EntryIndexes}
 use Rattle.seal.specs.Seal.{sealedPart}

@@ -18,7 +18,7 @@ use Rattle.words.proofs.Words.{length-big, length-little, big-endian-back, litt
 use Rattle.crc.specs.Crc.{crcOf}
 use Rattle.words.specs.Byte.{Bytes}
 use Rattle.crc.proofs.Laws.{crc-lt}
-use Rattle.log_item.specs.Got.{got}
+use Rattle.field.specs.Got.{got}
 use Rattle.log_item.specs.declared.LogItem.{LogItem}
 use Rattle.list_measure.specs.Bytes.{itemsBytes, listBytes}
 use Rattle.list_writer.specs.Bytes.{footed, bodyBytes}

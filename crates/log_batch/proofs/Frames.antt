@@ -10,10 +10,10 @@ use lib.Seq.{take-take}
 use Rattle.words.specs.Word.{bigEndian, readU64}
 use Rattle.words.specs.declared.U64Read.the-variants.{Done, Eof}
 use Rattle.words.proofs.Words.{u64-known, u64-ended}
-use Rattle.log_item.specs.Got.{got, refused, done, _>>_}
-use Rattle.log_item.specs.declared.Form.the-variants.{Any}
-use Rattle.log_item.specs.declared.Span.{Span}
-use Rattle.log_item.proofs.Holds.{Holds, holds, after, at-most, equal, of-got}
+use Rattle.field.specs.Got.{got, refused, done, _>>_}
+use Rattle.field.specs.declared.Form.the-variants.{Any}
+use Rattle.field.specs.declared.Span.{Span}
+use Rattle.field.proofs.Holds.{Holds, holds, after, at-most, equal, of-got}
 use Rattle.item_batch.specs.declared.LogItemBatch.{LogItemBatch}
 use Rattle.body_check.specs.declared.Wanted.the-variants.{Exactly}
 use Rattle.body_check.specs.Reading.{Answer, accepted, rejected, readItems}

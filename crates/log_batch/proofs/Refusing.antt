@@ -10,8 +10,8 @@ use lib.Dec.{leb, eqb}
 use lib.ListN.{length, take, drop}
 use Rattle.words.specs.Word.{bigEndian}
 use Rattle.seal.specs.Seal.{sealCheck, blockCheck}
-use Rattle.log_item.specs.Got.{refused, done, _>>_}
-use Rattle.log_item.specs.declared.Span.{Span}
+use Rattle.field.specs.Got.{refused, done, _>>_}
+use Rattle.field.specs.declared.Span.{Span}
 use Rattle.log_item.specs.declared.LogItem.{LogItem}
 use Rattle.log_item.specs.declared.EntryIndex.{EntryIndex}
 use Rattle.body_check.specs.declared.Wanted.the-variants.{Exactly}

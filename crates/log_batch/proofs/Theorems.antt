@@ -18,13 +18,14 @@ use Rattle.words.specs.Byte.{Bytes}
 use Rattle.words.proofs.Words.{length-little}
 use Rattle.crc.specs.Crc.{crcOf}
 use Rattle.seal.specs.Seal.{sealedPart, contentLength}
-use Rattle.log_item.specs.Got.{got, refused}
-use Rattle.log_item.specs.Reading.{byte, number, span, command, putAt, keyValue, firstIndex, entryIndexes, content, head, tail, tails, oneItem}
-use Rattle.log_item.specs.declared.Span.{Span}
+use Rattle.field.specs.Got.{got, refused}
+use Rattle.field.specs.Reading.{byte, number, span}
+use Rattle.log_item.specs.Reading.{command, putAt, keyValue, firstIndex, entryIndexes, content, head, tail, tails, oneItem}
+use Rattle.field.specs.declared.Span.{Span}
 use Rattle.log_item.specs.declared.LogItem.{LogItem}
 use Rattle.log_item.specs.declared.EntryIndex.{EntryIndex}
-use Rattle.log_item.specs.declared.Form.{Form}
-use Rattle.log_item.specs.declared.Form.the-variants.{Any, Plain}
+use Rattle.field.specs.declared.Form.{Form}
+use Rattle.field.specs.declared.Form.the-variants.{Any, Plain}
 use Rattle.list_writer.specs.declared.Encoded.{Encoded}
 use Rattle.list_measure.specs.Bytes.{itemsBytes, listBytes, itemsOf}
 use Rattle.list_writer.specs.Bytes.{bodyBytes, footed}

@@ -9,11 +9,11 @@ use lib.ListN.{length, take, drop, length-append, length-drop}
 use lib.Seq.{take-append-le, drop-append-le}
 use Rattle.words.specs.Word.{bigEndian}
 use Rattle.seal.specs.Seal.{sealedPart, sealCheck, contentLength}
-use Rattle.log_item.specs.Got.{Got, got, refused, done, bind, _>>_}
-use Rattle.log_item.specs.declared.Span.{Span}
+use Rattle.field.specs.Got.{Got, got, refused, done, bind, _>>_}
+use Rattle.field.specs.declared.Span.{Span}
 use Rattle.log_item.specs.declared.LogItem.{LogItem}
 use Rattle.log_item.specs.declared.EntryIndex.{EntryIndex}
-use Rattle.log_item.specs.declared.Form.the-variants.{Any}
+use Rattle.field.specs.declared.Form.the-variants.{Any}
 use Rattle.body_check.specs.Reading.{accepted, rejected, Answer, readItems}
 use Rattle.body_check.specs.Body.{readBody}
 use Rattle.body_check.specs.declared.Wanted.the-variants.{Exactly}

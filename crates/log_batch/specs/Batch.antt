@@ -4,9 +4,9 @@ use Prim.Native.Nat.{ℕ, _-_}
 use mathlib.Core.List.{List}
 use lib.Dec.{leb, eqb}
 use lib.ListN.{length, take, drop}
-use Rattle.log_item.specs.Got.{Got, got, refused, Reading, done, bind, _>>=_, _>>_, Test, _else_}
-use Rattle.log_item.specs.declared.Form.the-variants.{Any}
-use Rattle.log_item.specs.declared.Span.{Span}
+use Rattle.field.specs.Got.{Got, got, refused, Reading, done, bind, _>>=_, _>>_, Test, _else_}
+use Rattle.field.specs.declared.Form.the-variants.{Any}
+use Rattle.field.specs.declared.Span.{Span}
 use Rattle.item_batch.specs.declared.LogItemBatch.{LogItemBatch}
 use Rattle.body_check.specs.declared.Wanted.the-variants.{Exactly}
 use Rattle.body_check.specs.Reading.{Answer, rejected, readItems}

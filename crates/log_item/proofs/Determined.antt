@@ -3,9 +3,7 @@
 use mathlib.Core.Path.{_≡_, sym, ap, _∙_}
 use denote.Ref.{now}
 use Rattle.one_answer.specs.OneAnswer.{OneAnswer}
-use Rattle.log_item.specs.Answers.{Passed, fieldGot, headGot, tailGot, itemGot}
-use Rattle.log_item.specs.declared.Field.{Field}
-use Rattle.log_item.specs.declared.Field.the-variants as field
+use Rattle.log_item.specs.Answers.{Passed, headGot, tailGot, itemGot}
 use Rattle.log_item.specs.declared.HeadRead.{HeadRead}
 use Rattle.log_item.specs.declared.HeadRead.the-variants as head
 use Rattle.log_item.specs.declared.TailRead.{TailRead}
@@ -34,22 +32,8 @@ use Rattle.log_item.proofs.LogItem.measure.Kinds as measure-kinds
 use Rattle.log_item.proofs.LogItem.measure.Reads as measure-reads
 use Rattle.log_item.proofs.LogItem.encode.Kinds as encode-kinds
 use Rattle.log_item.proofs.LogItem.encode.Reads as encode-reads
-use Rattle.log_item.proofs.piece.read_number.Kinds as read-number-kinds
-use Rattle.log_item.proofs.piece.read_number.Reads as read-number-reads
-use Rattle.log_item.proofs.prefix.starts_with.Kinds as starts-with-kinds
-use Rattle.log_item.proofs.prefix.starts_with.Reads as starts-with-reads
-use Rattle.log_item.proofs.prefix.lies_in.Kinds as lies-in-kinds
-use Rattle.log_item.proofs.prefix.lies_in.Reads as lies-in-reads
-use Rattle.log_item.proofs.prefix.is_internal_key.Kinds as is-internal-key-kinds
-use Rattle.log_item.proofs.prefix.is_internal_key.Reads as is-internal-key-reads
 
 -- An answer says in the words of the definitions all that it says.
-field-same : (a b : Field) → fieldGot a ≡ fieldGot b → a ≡ b
-field-same (field.Done x q) (field.Done y z) e = cc
-field-same (field.Done x q) (field.Refused r) e = cc
-field-same (field.Refused r) (field.Done x q) e = cc
-field-same (field.Refused r) (field.Refused x) e = cc
-
 head-same : (a b : HeadRead) → headGot a ≡ headGot b → a ≡ b
 head-same (head.Done x q) (head.Done y z) e = cc
 head-same (head.Done x q) (head.Refused r) e = cc
@@ -87,18 +71,6 @@ decode-tail κs a x y s t p q = tail-same x y (p ∙ sym q)
 
 pub skip-tails : OneAnswer 1 skip-tails-kinds.ps skip-tails-kinds.r skip-tails-reads.Post (λ κs x y s t. x ≡ y)
 skip-tails κs a x y s t p q = tail-same x y (p ∙ sym q)
-
-pub read-number : OneAnswer 1 read-number-kinds.ps read-number-kinds.r read-number-reads.Post (λ κs x y s t. x ≡ y)
-read-number κs a x y s t p q = field-same x y (p ∙ sym q)
-
-pub lies-in : OneAnswer 1 lies-in-kinds.ps lies-in-kinds.r lies-in-reads.Post (λ κs x y s t. x ≡ y)
-lies-in κs a x y s t p q = p ∙ sym q
-
-pub is-internal-key : OneAnswer 1 is-internal-key-kinds.ps is-internal-key-kinds.r is-internal-key-reads.Post (λ κs x y s t. x ≡ y)
-is-internal-key κs a x y s t p q = p ∙ sym q
-
-pub starts-with : OneAnswer 2 starts-with-kinds.ps starts-with-kinds.r starts-with-reads.Post (λ κs x y s t. x ≡ y)
-starts-with κs a x y s t p q = p ∙ sym q
 
 pub measure : OneAnswer 1 measure-kinds.ps measure-kinds.r measure-reads.Post (λ κs x y s t. x ≡ y)
 measure κs a x y s t p q = p ∙ sym q

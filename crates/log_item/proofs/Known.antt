@@ -13,32 +13,15 @@ use Rattle.numbers.specs.Number.{readNumber}
 use Rattle.numbers.specs.declared.NumberRead.{NumberRead}
 use Rattle.numbers.specs.declared.NumberRead.the-variants.{Done, Eof, Overflow}
 use Rattle.numbers.proofs.Theorems.{read-moves}
-use Rattle.log_item.specs.Got.{got, done}
+use Rattle.field.specs.Got.{got, done}
 use Rattle.log_item.specs.Entries.{entriesOf}
-use Rattle.log_item.specs.Reading.{numberGot, byte, number, command, keyValue, firstIndex, entryIndexes, content, head, tail}
-use Rattle.log_item.specs.declared.Form.{Form}
-use Rattle.log_item.specs.declared.Form.the-variants.{Any, Plain}
+use Rattle.field.specs.Reading.{numberGot, byte, number}
+use Rattle.log_item.specs.Reading.{command, keyValue, firstIndex, entryIndexes, content, head, tail}
+use Rattle.field.specs.declared.Form.{Form}
+use Rattle.field.specs.declared.Form.the-variants.{Any, Plain}
 use Rattle.log_item.specs.declared.EntryIndexes.{EntryIndexes}
 use Rattle.log_item.specs.declared.LogItem.{LogItem}
-use Rattle.log_item.proofs.Holds.{Holds, holds, refuses, after, later, at-most, tested, chosen, of-got}
-
--- the piece at p has a byte at least, and ends in the bytes
-abbrev Inside : List ℕ → ℕ → ℕ → ℕ → Type 0
-Inside s p n q = (p < q) × (q ≤ length s)
-
-module _ (s : List ℕ) (p : ℕ) where
-  any-holds : Holds (Inside s p) (numberGot (readNumber s p))
-  any-holds = go (readNumber s p) (read-moves s p)
-    where
-      go : (r : NumberRead) → ((n q : ℕ) → r ≡ Done n q → (p < q) × (q ≤ length s)) → Holds (Inside s p) (numberGot r)
-      go (Done n q) h = holds (h n q refl)
-      go Eof h = refuses
-      go Overflow h = refuses
-
-  number-holds : (form : Form) → Holds (Inside s p) (number form s p)
-  unfolding number
-  number-holds Any = any-holds
-  number-holds Plain = after any-holds λ n q h. tested (eqb q (p + length (shortest n))) 8 (done n) q (λ _. holds h)
+use Rattle.field.proofs.Holds.{Holds, holds, refuses, after, later, at-most, tested, chosen, of-got}
 
 -- entries that may follow e others: what is stated of them where there is one
 pub record Fits (e : ℕ) (x : EntryIndexes) : Type 0 where
@@ -46,10 +29,6 @@ pub record Fits (e : ℕ) (x : EntryIndexes) : Type 0 where
   pub last : 0 < x .count → x .«first_index» + x .count ≤ 2 ^ 64
 
 module _ (form : Form) (s : List ℕ) where
-  -- A number has a byte at least, and ends in the bytes.
-  pub number-inside : (p : ℕ) {n q : ℕ} → number form s p ≡ got n q → (p < q) × (q ≤ length s)
-  number-inside p e = of-got (number-holds s p form) e
-
   tail-holds : (t p : ℕ) → Holds (λ w q. (t ≤ w) × (w ≤ 4294967295)) (tail form s t p)
   unfolding tail
   tail-holds t p = later (number form s p) λ w q. at-most w 4294967295 16 _ q λ h. at-most t w 15 _ q λ k. holds (k, h)

@@ -1,10 +1,7 @@
-pub mod Holds
 pub mod Fields
 pub mod Parts
 pub mod Passing
 pub mod Known
-pub mod Starts
-pub mod Inside
 pub mod Place
 pub mod Numbers
 pub mod Complete

@@ -8,8 +8,8 @@ use native.Mathlib.Omega.{arith}
 use lib.ListN.{length, take}
 use lib.Seq.{take-append-seam, take-at}
 use Rattle.numbers.proofs.Theorems.{one-spelling}
-use Rattle.log_item.specs.declared.Form.the-variants.{Any}
-use Rattle.log_item.specs.declared.Span.{Span}
+use Rattle.field.specs.declared.Form.the-variants.{Any}
+use Rattle.field.specs.declared.Span.{Span}
 use Rattle.log_item.specs.declared.Command.{Command}
 use Rattle.log_item.specs.declared.KeyValue.{KeyValue}
 use Rattle.log_item.specs.declared.EntryIndexes.{EntryIndexes}

@@ -9,8 +9,8 @@ use lib.Dec.{ltb, leb}
 use borrow.Author.Tests.{ltb-false, lt-ltb, le-ltb}
 use Rattle.refusal.specs.First.{firstOf}
 use Rattle.log_item.specs.Entries.{entriesOf}
-use Rattle.log_item.specs.Prefix.{prefix, begins, bytesOf}
-use Rattle.log_item.specs.declared.Span.{Span}
+use Rattle.field.specs.Prefix.{prefix, begins, bytesOf}
+use Rattle.field.specs.declared.Span.{Span}
 use Rattle.log_item.specs.declared.Op.{Op}
 use Rattle.log_item.specs.declared.Op.the-variants.{Put, Del}
 use Rattle.log_item.specs.declared.EntryIndexes.{EntryIndexes}
@@ -19,7 +19,7 @@ use Rattle.log_item.specs.declared.KeyValue.{KeyValue}
 use Rattle.log_item.specs.declared.LogItemContent.{LogItemContent}
 use Rattle.log_item.specs.declared.LogItemContent.the-variants as contents
 use Rattle.log_item.proofs.Lengths.{and-both}
-use Rattle.log_item.specs.Prefix.{inside}
+use Rattle.field.specs.Prefix.{inside}
 use Rattle.log_item.specs.Refusing.{opInside, spanRefusal, contentInside, entriesRefusal, keyRefusal, contentRefusal}
 use Rattle.log_item.specs.Written.{pieceRefusal}
 

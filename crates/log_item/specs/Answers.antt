@@ -3,19 +3,14 @@
 use Prim.Native.Nat.{ℕ, _+_}
 use mathlib.Core.List.{List}
 use lib.ListN.{length}
-use Rattle.log_item.specs.Got.{Got, got, refused, Reading, done, bind, _>>=_}
+use Rattle.field.specs.Got.{Got, got, refused, Reading, done, bind, _>>=_}
 use Rattle.log_item.specs.Reading.{tails, oneItem}
-use Rattle.log_item.specs.declared.Form.{Form}
-use Rattle.log_item.specs.declared.Span.{Span}
+use Rattle.field.specs.declared.Form.{Form}
 use Rattle.log_item.specs.declared.Command.{Command}
 use Rattle.log_item.specs.declared.KeyValue.{KeyValue}
 use Rattle.log_item.specs.declared.EntryIndexes.{EntryIndexes}
 use Rattle.log_item.specs.declared.LogItemContent.{LogItemContent}
 use Rattle.log_item.specs.declared.LogItem.{LogItem}
-use Rattle.log_item.specs.declared.Field.{Field}
-use Rattle.log_item.specs.declared.Field.the-variants as field
-use Rattle.log_item.specs.declared.SpanRead.{SpanRead}
-use Rattle.log_item.specs.declared.SpanRead.the-variants as span
 use Rattle.log_item.specs.declared.CommandRead.{CommandRead}
 use Rattle.log_item.specs.declared.CommandRead.the-variants as command
 use Rattle.log_item.specs.declared.KeyValueRead.{KeyValueRead}
@@ -30,14 +25,6 @@ use Rattle.log_item.specs.declared.TailRead.{TailRead}
 use Rattle.log_item.specs.declared.TailRead.the-variants as tail
 use Rattle.log_item.specs.declared.ItemRead.{ItemRead}
 use Rattle.log_item.specs.declared.ItemRead.the-variants as item
-
-abbrev pub fieldGot : Field → Got ℕ
-fieldGot (field.Done v q) = got v q
-fieldGot (field.Refused r) = refused r
-
-abbrev pub spanGot : SpanRead → Got Span
-spanGot (span.Done x q) = got x q
-spanGot (span.Refused r) = refused r
 
 abbrev pub commandGot : CommandRead → Got Command
 commandGot (command.Done x q) = got x q

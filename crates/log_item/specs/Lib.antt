@@ -1,8 +1,6 @@
-pub mod Got
 pub mod Entries
 pub mod Reading
 pub mod Answers
-pub mod Prefix
 pub mod Blank
 pub mod Each
 pub mod Limits

@@ -8,7 +8,7 @@ use lib.Dec.{ltb}
 use lib.ListN.{length}
 use lib.Seq.{sets}
 use Rattle.numbers.specs.Shortest.{shortest}
-use Rattle.log_item.specs.declared.Span.{Span}
+use Rattle.field.specs.declared.Span.{Span}
 use Rattle.log_item.specs.declared.Op.{Op}
 use Rattle.log_item.specs.declared.Op.the-variants.{Put, Del}
 use Rattle.log_item.specs.declared.LogItemContent.{LogItemContent}

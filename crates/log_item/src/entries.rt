@@ -4,10 +4,10 @@ ghost use Rattle.log_item.specs.Reading.{firstIndex};
 ghost use Rattle.log_item.specs.Answers.{entriesGot, tailGot, passTails};
 use crate::EntryIndexes;
 use crate::EntryIndexesRead;
-use crate::Field;
-use crate::Form;
 use crate::TailRead;
-use crate::piece::read_number;
+use field::Field;
+use field::Form;
+use field::read_number;
 
 // The first index of `count` entries, where there are any.
 pub(crate) fn read_first_index(buf: &[u8], at: usize, count: usize, form: Form) -> EntryIndexesRead

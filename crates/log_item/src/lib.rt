@@ -4,34 +4,30 @@
 // Every public function takes any arguments: a place may lie anywhere, past the end too. A refusal is a number of document 01.
 mod entries;
 mod measuring;
-mod piece;
-mod prefix;
 mod refusing;
 mod writing;
 
 pub use entries::skip_tails;
-pub use piece::read_number;
-pub use prefix::is_internal_key;
-pub use prefix::lies_in;
-pub use prefix::starts_with;
+pub use field::Field;
+pub use field::Form;
+pub use field::Span;
+pub use field::is_internal_key;
+pub use field::lies_in;
+pub use field::read_number;
+pub use field::starts_with;
 ghost use mathlib.Core.Path.{_≡_};
 ghost use Rattle.log_item.specs.Entries.{entriesOf};
 ghost use Rattle.log_item.specs.Reading.{command, putAt, keyValue, entryIndexes, content, head, tail};
 ghost use Rattle.log_item.specs.Answers.{commandGot, keyValueGot, entriesGot, contentGot, headGot, tailGot, itemGot, passItem};
 use entries::read_first_index;
-use piece::read_byte;
-use piece::read_span;
+use field::SpanRead;
+use field::read_byte;
+use field::read_span;
 
 // A group's log is cleaned, or compacted up to an index.
 pub enum Command {
     Clean,
     Compact { index: u64 },
-}
-
-// Where bytes stand in the body.
-pub struct Span {
-    pub at: usize,
-    pub len: usize,
 }
 
 // What is done with a key. A delete has no content.
@@ -69,12 +65,6 @@ pub struct EntryIndex {
     pub entry_len: u32,
 }
 
-// Which spellings of a number are taken: any permitted one, or the shortest alone.
-pub enum Form {
-    Any,
-    Plain,
-}
-
 // An item, the place after it, and the total and the number of entries after it; or why it is refused.
 pub enum ItemRead {
     Done {
@@ -95,12 +85,6 @@ pub enum HeadRead {
 // A tail, which is the total after its entry, and the place after it; or why it is refused.
 pub enum TailRead {
     Done { total: u32, next: usize },
-    Refused(u32),
-}
-
-// A number or a byte, and the place after it; or why it is refused.
-pub enum Field {
-    Done { value: u64, next: usize },
     Refused(u32),
 }
 
@@ -127,11 +111,6 @@ pub enum ItemWrote {
 enum TailsSize {
     Fine { len: usize, total: u32 },
     TooLarge,
-}
-
-enum SpanRead {
-    Done { span: Span, next: usize },
-    Refused(u32),
 }
 
 enum CommandRead {

@@ -5,9 +5,9 @@ use mathlib.Core.Path.{_≡_}
 use mathlib.Core.List.{List, _∷_, _++_}
 use Rattle.log_item.specs.declared.LogItem.{LogItem}
 use Rattle.log_item.specs.declared.EntryIndex.{EntryIndex}
-use Rattle.log_item.specs.Got.{Got}
+use Rattle.field.specs.Got.{Got}
 use Rattle.log_item.specs.Reading.{Read}
-use Rattle.log_item.proofs.Holds.{Holds, holds, refuses}
+use Rattle.field.proofs.Holds.{Holds, holds, refuses}
 use Rattle.body_check.specs.Reading.{Answer, accepted, rejected, before, inFront, counted}
 
 -- What is accepted has the property; a refusal has it trivially.

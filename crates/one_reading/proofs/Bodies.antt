@@ -11,7 +11,7 @@ use lib.Seq.{take-at, drop-at}
 use borrow.Author.Tests.{leb-false, eqb-true, lt-leb, eq-eqb}
 use Rattle.words.specs.Word.{littleEndian}
 use Rattle.crc.specs.Crc.{crcOf}
-use Rattle.log_item.specs.declared.Form.the-variants.{Any, Plain}
+use Rattle.field.specs.declared.Form.the-variants.{Any, Plain}
 use Rattle.log_item.specs.declared.LogItem.{LogItem}
 use Rattle.log_item.specs.declared.EntryIndex.{EntryIndex}
 use Rattle.words.specs.Byte.{Bytes}

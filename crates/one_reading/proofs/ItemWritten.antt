@@ -11,17 +11,17 @@ use lib.Dec.{ltb, leb}
 use borrow.Author.Tests.{ltb-false, leb-true, le-leb}
 use Rattle.numbers.specs.Shortest.{shortest}
 use Rattle.words.specs.Write.{placed}
-use Rattle.log_item.specs.Got.{got}
+use Rattle.field.specs.Got.{got}
 use Rattle.log_item.specs.Entries.{entriesOf, typeOf}
 use Rattle.log_item.specs.Each.{Each, none, one}
 use Rattle.log_item.specs.Limits.{RowFits}
 use Rattle.log_item.specs.Spelling.{NumberIn, Spanned, spanned, Contents, no-entries, entries, clean, compact, put, delete, Tails, no-more, next, OneItem, item}
 use Rattle.log_item.specs.Place.{At}
-use Rattle.log_item.specs.Prefix.{bytesOf}
+use Rattle.field.specs.Prefix.{bytesOf}
 use Rattle.log_item.specs.Reading.{oneItem}
-use Rattle.log_item.specs.declared.Form.{Form}
-use Rattle.log_item.specs.declared.Form.the-variants.{Any, Plain}
-use Rattle.log_item.specs.declared.Span.{Span}
+use Rattle.field.specs.declared.Form.{Form}
+use Rattle.field.specs.declared.Form.the-variants.{Any, Plain}
+use Rattle.field.specs.declared.Span.{Span}
 use Rattle.log_item.specs.declared.Command.{Command}
 use Rattle.log_item.specs.declared.Command.the-variants.{Clean, Compact}
 use Rattle.log_item.specs.declared.Op.{Op}
@@ -34,7 +34,7 @@ use Rattle.log_item.proofs.Place.{cut}
 use Rattle.log_item.proofs.Forms.{form-any}
 use Rattle.log_item.proofs.Complete.{complete-item}
 use Rattle.log_item.specs.Bytes.{spanBytes, commandBytes, opBytes, entriesBytes, contentBytes, headBytes, tailsBytes}
-use Rattle.log_item.specs.Prefix.{inside}
+use Rattle.field.specs.Prefix.{inside}
 use Rattle.log_item.specs.Refusing.{opInside, contentInside, contentRefusal}
 use Rattle.refusal.specs.First.{firstOf}
 use Rattle.log_item.specs.Written.{sumOf, rowLengths, itemBytes, itemRefusal}

@@ -7,8 +7,8 @@ use native.Mathlib.Omega.{arith}
 use native.Mathlib.Nat.{zero-add}
 use lib.ListN.{length, drop, length-append}
 use borrow.Author.Tests.{le-leb}
-use Rattle.log_item.specs.declared.Form.{Form}
-use Rattle.log_item.specs.declared.Form.the-variants.{Any}
+use Rattle.field.specs.declared.Form.{Form}
+use Rattle.field.specs.declared.Form.the-variants.{Any}
 use Rattle.log_item.specs.declared.LogItem.{LogItem}
 use Rattle.log_item.specs.declared.EntryIndex.{EntryIndex}
 use Rattle.log_item.specs.Each.{Each}
@@ -21,7 +21,7 @@ use Rattle.one_reading.specs.Acceptable.{Begins}
 use Rattle.one_reading.specs.Rows.{Joined, Indexed}
 use Rattle.one_reading.specs.Rows as lie
 use Rattle.log_item.specs.Place.{At, Found, Asks}
-use Rattle.log_item.proofs.Holds.{Holds, holds, after, at-most}
+use Rattle.field.proofs.Holds.{Holds, holds, after, at-most}
 use Rattle.log_item.proofs.Place.{join, cut, nothing, at-front}
 use Rattle.log_item.proofs.Numbers.{complete-number, sound-number, number-some, in-any}
 use Rattle.one_reading.proofs.ItemRows.{each-append, each-split, item-length, item-joined, item-consecutive, joined-append}

@@ -27,12 +27,12 @@ use Rattle.log_item.specs.Spelling.{NumberIn}
 use Rattle.one_reading.specs.Spelling.{Items, end, then, Spells, list}
 use Rattle.log_item.specs.Place.{At}
 use Rattle.one_reading.specs.Encoding.{Encodes, writes, leaves}
-use Rattle.log_item.specs.declared.Form.the-variants.{Any, Plain}
+use Rattle.field.specs.declared.Form.the-variants.{Any, Plain}
 use Rattle.log_item.specs.declared.LogItemContent.{LogItemContent}
 use Rattle.log_item.specs.declared.LogItemContent.the-variants as contents
 use Rattle.log_item.specs.declared.LogItem.{LogItem}
 use Rattle.log_item.specs.declared.EntryIndex.{EntryIndex}
-use Rattle.log_item.proofs.Holds.{of-got}
+use Rattle.field.proofs.Holds.{of-got}
 use Rattle.log_item.proofs.Numbers.{in-any}
 use Rattle.log_item.proofs.Place.{cut, at-front}
 use Rattle.one_reading.proofs.ItemRows.{each-append, item-length}

@@ -10,7 +10,7 @@ use Rattle.numbers.proofs.Shortest.{spell-one, spell-more, Size, small, large, 
 use Rattle.words.specs.Byte.{Bytes}
 use Rattle.words.proofs.Bytes.{bytes-take, bytes-drop}
 use Rattle.log_item.specs.Entries.{typeOf}
-use Rattle.log_item.specs.declared.Span.{Span}
+use Rattle.field.specs.declared.Span.{Span}
 use Rattle.log_item.specs.declared.Command.the-variants.{Clean, Compact}
 use Rattle.log_item.specs.declared.Op.{Op}
 use Rattle.log_item.specs.declared.Op.the-variants.{Put, Del}

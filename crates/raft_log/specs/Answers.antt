@@ -7,7 +7,7 @@ use lib.Dec.{eqb}
 use lib.ListN.{getD}
 use Rattle.words.specs.declared.Wrote.{Wrote}
 use Rattle.words.specs.declared.Wrote.the-variants as wrote
-use Rattle.log_item.specs.Got.{Got, got, refused}
+use Rattle.field.specs.Got.{Got, got, refused}
 use Rattle.item_row.specs.declared.RowRead.{RowRead}
 use Rattle.item_row.specs.declared.RowRead.the-variants as row
 use Rattle.body_check.specs.declared.BodyCheck.{BodyCheck}

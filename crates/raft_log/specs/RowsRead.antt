@@ -4,7 +4,7 @@ use Prim.Native.Nat.{ℕ}
 use mathlib.Core.Path.{_≡_}
 use mathlib.Core.List.{List, [], _∷_}
 use lib.ListN.{length}
-use Rattle.log_item.specs.declared.Span.{Span}
+use Rattle.field.specs.declared.Span.{Span}
 use Rattle.body_check.specs.declared.BodyCheck.{BodyCheck}
 use Rattle.body_check.specs.declared.BodyCheck.the-variants.{Accepted, Refused}
 use Rattle.body_check.specs.Reading.{Answer}

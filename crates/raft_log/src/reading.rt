@@ -1,6 +1,6 @@
 // Bodies and batches, read into rows of words that the caller lends.
 ghost use mathlib.Core.Path.{_≡_};
-ghost use Rattle.log_item.specs.declared.Form.the-variants.{Any};
+ghost use Rattle.field.specs.declared.Form.the-variants.{Any};
 ghost use Rattle.body_check.specs.Reading.{readItems};
 ghost use Rattle.body_check.specs.Body.{readBody};
 ghost use Rattle.item_row.specs.Reply.{reply};

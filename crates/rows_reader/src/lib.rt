@@ -4,7 +4,7 @@ ghost use mathlib.Core.Path.{_≡_};
 ghost use mathlib.Core.List.{[], _∷_};
 ghost use Prim.Native.Nat.{_+_, _≤_};
 ghost use lib.ListN.{length};
-ghost use Rattle.log_item.specs.declared.Form.the-variants.{Any};
+ghost use Rattle.field.specs.declared.Form.the-variants.{Any};
 ghost use Rattle.item_row.specs.Row.{itemWords, keyWords};
 ghost use Rattle.body_check.specs.Reading.{readItems};
 ghost use Rattle.body_check.specs.Total.{agreeing};

@@ -2,7 +2,7 @@
 -- Assumes nothing.
 use borrow.Author.Tests.{not-true, not-false}
 use denote.Ref.{now}
-use Rattle.log_item.proofs.Inside.{lies-in}
+use Rattle.field.proofs.Inside.{lies-in}
 use Rattle.atomic_status.proofs.Marks.{put-outside, put-other, put-long, put-mark}
 use native.Mathlib.Omega.{arith}
 use borrow.Author.Needs.{needs}

@@ -1,8 +1,8 @@
 -- `body_check::check_form` meets its contract: the item count, then the items.
 -- Assumes nothing.
 use mathlib.Core.Path.{sym, ap, _∙_}
-use Rattle.log_item.specs.Answers.{fieldGot}
-use Rattle.log_item.proofs.Fields.{learnt}
+use Rattle.field.specs.Answers.{fieldGot}
+use Rattle.field.proofs.Fields.{learnt}
 use Rattle.body_check.specs.Answers.{checkOf}
 use Rattle.body_check.proofs.Checking.{count-broken, count-many, count-good}
 use borrow.Author.Needs.{needs}

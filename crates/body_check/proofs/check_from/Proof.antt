@@ -2,7 +2,7 @@
 -- Assumes nothing.
 use Prim.Native.Nat.{_-_}
 use Rattle.log_item.specs.Answers.{itemGot}
-use Rattle.log_item.proofs.Fields.{learnt}
+use Rattle.field.proofs.Fields.{learnt}
 use Rattle.body_check.proofs.Checking.{Left, left-start, left-more, left-refused, left-end}
 use borrow.Author.Needs.{needs}
 use Rattle.body_check.proofs.check_from.Statement.{statement}

@@ -1,7 +1,7 @@
 -- `body_check::pass_item` meets its contract.
 -- Assumes nothing.
 use Rattle.log_item.specs.Answers.{headGot, tailGot}
-use Rattle.log_item.proofs.Fields.{learnt}
+use Rattle.field.proofs.Fields.{learnt}
 use Rattle.log_item.proofs.Known.{head-room}
 use Rattle.log_item.proofs.Passing.{item-done, item-no-tails, item-refused}
 use native.Mathlib.Omega.{arith}

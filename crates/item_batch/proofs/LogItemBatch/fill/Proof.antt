@@ -4,8 +4,8 @@
 use Prim.Native.Nat.{_+_, _-_, _*_}
 use mathlib.Core.Path.{_≡_, refl}
 use Rattle.log_item.specs.Answers.{headGot, tailGot}
-use Rattle.log_item.specs.declared.Form.the-variants.{Any}
-use Rattle.log_item.proofs.Fields.{learnt}
+use Rattle.field.specs.declared.Form.the-variants.{Any}
+use Rattle.field.proofs.Fields.{learnt}
 use Rattle.log_item.proofs.Known.{tail-known, head-room}
 use Rattle.item_batch.proofs.Filling.{Filling, count-broken, count-large, begun, next-row, row-refused, ended, next-item, item-refused}
 use Rattle.item_batch.proofs.Tables.{refused-table, filled}

@@ -2,7 +2,7 @@
 -- Assumes nothing.
 use mathlib.Core.Path.{_≡_, refl, _∙_}
 use Rattle.log_item.specs.Answers.{tailGot, passTails}
-use Rattle.log_item.proofs.Fields.{learnt}
+use Rattle.field.proofs.Fields.{learnt}
 use Rattle.log_item.proofs.Passing.{pass-end, pass-next, pass-stop}
 use borrow.Author.Needs.{needs}
 use native.Mathlib.Omega.{arith}

@@ -1,12 +1,12 @@
--- `log_item::piece::read_number` meets its contract.
+-- `field::piece::read_number` meets its contract.
 -- Assumes nothing.
 use mathlib.Core.Path.{refl}
 use Rattle.numbers.proofs.Theorems.{read-moves}
-use Rattle.log_item.proofs.Fields.{learnt, number-any, number-plain, number-padded, number-broken}
+use Rattle.field.proofs.Fields.{learnt, number-any, number-plain, number-padded, number-broken}
 use native.Mathlib.Omega.{arith}
 use borrow.Author.Needs.{needs}
-use Rattle.log_item.proofs.piece.read_number.Statement.{statement}
-use Rattle.log_item.proofs.piece.read_number.Tie as tie
+use Rattle.field.proofs.piece.read_number.Statement.{statement}
+use Rattle.field.proofs.piece.read_number.Tie as tie
 
 decode-var-u64-requires : tie.Need-decode-var-u64-requires
 decode-var-u64-requires c κs = search needs

@@ -10,7 +10,7 @@ use borrow.Author.Tests.{eq-eqb, ne-eqb}
 use lib.Dec.{eqb}
 use lib.ListN.{length, getD, take, drop, length-take, length-drop, drop-of-length-le}
 use lib.Seq.{drop-cons, getD-drop, getD-take}
-use Rattle.log_item.specs.Prefix.{begins}
+use Rattle.field.specs.Prefix.{begins}
 
 and-false : (b : Bool) → b && false ≡ false
 and-false true = refl

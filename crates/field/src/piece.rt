@@ -1,7 +1,7 @@
 // The smallest pieces of an item, each read at a place: a number, a byte, a span.
 ghost use mathlib.Core.Path.{_≡_};
-ghost use Rattle.log_item.specs.Reading.{number, byte, span};
-ghost use Rattle.log_item.specs.Answers.{fieldGot, spanGot};
+ghost use Rattle.field.specs.Reading.{number, byte, span};
+ghost use Rattle.field.specs.Answers.{fieldGot, spanGot};
 use crate::Field;
 use crate::Form;
 use crate::Span;
@@ -12,7 +12,7 @@ use codec::NumberRead;
 const NOT_SHORTEST: u32 = 8;
 
 // A length and as many bytes: where these stand.
-pub(crate) fn read_span(buf: &[u8], at: usize, form: Form) -> SpanRead
+pub fn read_span(buf: &[u8], at: usize, form: Form) -> SpanRead
     ensures { λ r. ⌜ spanGot r ≡ span form (now (buf .entry)) at ⌝ }
 {
     match read_number(buf, at, form) {
@@ -48,7 +48,8 @@ pub fn read_number(buf: &[u8], at: usize, form: Form) -> Field
     }
 }
 
-pub(crate) fn read_byte(buf: &[u8], at: usize) -> Field
+// The byte at a place.
+pub fn read_byte(buf: &[u8], at: usize) -> Field
     ensures { λ r. ⌜ fieldGot r ≡ byte (now (buf .entry)) at ⌝ }
 {
     if at < buf.len() {

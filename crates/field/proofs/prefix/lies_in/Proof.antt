@@ -1,10 +1,10 @@
--- `log_item::prefix::lies_in` meets its contract.
+-- `field::prefix::lies_in` meets its contract.
 -- Assumes nothing.
 use denote.Ref.{now}
-use Rattle.log_item.proofs.Inside.{lies-out, lies-where}
+use Rattle.field.proofs.Inside.{lies-out, lies-where}
 use borrow.Author.Needs.{needs}
-use Rattle.log_item.proofs.prefix.lies_in.Statement.{statement}
-use Rattle.log_item.proofs.prefix.lies_in.Tie as tie
+use Rattle.field.proofs.prefix.lies_in.Statement.{statement}
+use Rattle.field.proofs.prefix.lies_in.Tie as tie
 
 returns : tie.Need-returns
 returns c = lies-out (now (c .before .args .store)) (c .before .args .span) (c .if1 .taken)

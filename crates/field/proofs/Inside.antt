@@ -8,8 +8,8 @@ use native.Mathlib.Omega.{arith}
 use borrow.Author.Tests.{le-leb, lt-leb, leb-true, leb-false}
 use lib.Dec.{leb}
 use lib.ListN.{length}
-use Rattle.log_item.specs.Prefix.{inside}
-use Rattle.log_item.specs.declared.Span.{Span}
+use Rattle.field.specs.Prefix.{inside}
+use Rattle.field.specs.declared.Span.{Span}
 
 module _ (s : List ℕ) (k : Span) where
   pub lies-out : length s < k .at → false ≡ inside s k

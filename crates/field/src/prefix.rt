@@ -1,7 +1,7 @@
 // The bytes of a span: whether they lie in the store, and whether they begin with the internal prefix.
 ghost use mathlib.Core.Path.{_≡_};
 ghost use Prim.Native.Nat.{_-_, min};
-ghost use Rattle.log_item.specs.Prefix.{prefix, begins, bytesOf, inside};
+ghost use Rattle.field.specs.Prefix.{prefix, begins, bytesOf, inside};
 use crate::Span;
 
 // Whether all bytes of a span are in the store.

@@ -1,10 +1,10 @@
--- `log_item::piece::read_byte` meets its contract.
+-- `field::piece::read_byte` meets its contract.
 -- Assumes nothing.
-use Rattle.log_item.proofs.Fields.{byte-in, byte-out}
+use Rattle.field.proofs.Fields.{byte-in, byte-out}
 use native.Mathlib.Omega.{arith}
 use borrow.Author.Needs.{needs}
-use Rattle.log_item.proofs.piece.read_byte.Statement.{statement}
-use Rattle.log_item.proofs.piece.read_byte.Tie as tie
+use Rattle.field.proofs.piece.read_byte.Statement.{statement}
+use Rattle.field.proofs.piece.read_byte.Tie as tie
 
 shared-slice-read-wide : tie.Need-shared-slice-read-wide
 shared-slice-read-wide c = search needs

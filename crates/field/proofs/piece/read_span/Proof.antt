@@ -1,12 +1,12 @@
--- `log_item::piece::read_span` meets its contract.
+-- `field::piece::read_span` meets its contract.
 -- Assumes nothing.
-use Rattle.log_item.specs.Answers.{fieldGot}
-use Rattle.log_item.proofs.Fields.{learnt, span-in, span-outside, span-refused}
-use Rattle.log_item.proofs.Known.{number-inside}
+use Rattle.field.specs.Answers.{fieldGot}
+use Rattle.field.proofs.Fields.{learnt, span-in, span-outside, span-refused}
+use Rattle.field.proofs.Known.{number-inside}
 use native.Mathlib.Omega.{arith}
 use borrow.Author.Needs.{needs}
-use Rattle.log_item.proofs.piece.read_span.Statement.{statement}
-use Rattle.log_item.proofs.piece.read_span.Tie as tie
+use Rattle.field.proofs.piece.read_span.Statement.{statement}
+use Rattle.field.proofs.piece.read_span.Tie as tie
 
 read-number-requires : tie.Need-read-number-requires
 read-number-requires c κs = search needs

@@ -4,7 +4,7 @@ use Prim.Native.Nat.{ℕ, _≤_, _<_}
 use mathlib.Core.Path.{_≡_}
 use mathlib.Core.Bool.{Bool, true, false, cond}
 use lib.Dec.{T, leb, ltb, eqb, leb→le, ltb→lt, eqb→eq}
-use Rattle.log_item.specs.Got.{Got, got, refused, Reading, bind, _>>_, _else_}
+use Rattle.field.specs.Got.{Got, got, refused, Reading, bind, _>>_, _else_}
 
 -- What is got has the property; a refusal has it trivially.
 pub data Holds {A : Type 0} (P : A → ℕ → Type 0) : Got A → Type 0 where

@@ -1,0 +1,4 @@
+pub mod Got
+pub mod Reading
+pub mod Answers
+pub mod Prefix

@@ -1,0 +1,49 @@
+-- What reading a number, a byte and a span at a place answers. A refusal is the number of the first check that failed.
+-- Assumes nothing.
+use Prim.Native.Nat.{ℕ, _+_}
+use mathlib.Core.List.{List}
+use lib.Dec.{ltb, leb, eqb}
+use lib.ListN.{length, getD}
+use Rattle.numbers.specs.Number.{readNumber}
+use Rattle.numbers.specs.Shortest.{shortest}
+use Rattle.numbers.specs.declared.NumberRead.{NumberRead}
+use Rattle.numbers.specs.declared.NumberRead.the-variants.{Done, Eof, Overflow}
+use Rattle.field.specs.Got.{Got, got, refused, Reading, done, upto, refuse, here, bind, _>>=_, _>>_, Test, _else_}
+use Rattle.field.specs.declared.Form.{Form}
+use Rattle.field.specs.declared.Form.the-variants.{Any, Plain}
+use Rattle.field.specs.declared.Span.{Span}
+
+-- the bytes end inside or before the number, or its tenth byte is above 1: 7
+abbrev pub numberGot : NumberRead → Got ℕ
+numberGot (Done n q) = got n q
+numberGot Eof = refused 7
+numberGot Overflow = refused 7
+
+-- a one-byte field
+unfoldable pub byte : List ℕ → Reading ℕ
+byte s = do
+  p ← here
+  ltb p (length s) else 7
+  upto (p + 1) (getD s p 0)
+
+module _ (form : Form) (s : List ℕ) where
+  -- a number in the form asked for. What Plain alone refuses has the number 8, which document 01 leaves free; the plain-form test answers no there
+  abbrev pub inForm : Form → Reading ℕ
+  inForm Any = λ p. numberGot (readNumber s p)
+  inForm Plain = do
+    p ← here
+    n ← λ p. numberGot (readNumber s p)
+    q ← here
+    eqb q (p + length (shortest n)) else 8
+    done n
+
+  unfoldable pub number : Reading ℕ
+  number = inForm form
+
+  -- a length, and as many bytes
+  unfoldable pub span : Reading Span
+  span = do
+    n ← number
+    p ← here
+    leb (p + n) (length s) else 13
+    upto (p + n) (record { at = p; len = n })
