@@ -87,5 +87,5 @@ encode-key-value κs a x y s t p q = (p .0 ∙ sym (q .0), p .1 ∙ sym (q .1))
 pub encode-entry-indexes : OneAnswer 1 encode-entry-indexes-kinds.ps encode-entry-indexes-kinds.r encode-entry-indexes-reads.Post (λ κs x y s t. (x ≡ y) × (now (s .1 .0) ≡ now (t .1 .0)))
 encode-entry-indexes κs a x y s t p q = (p .0 ∙ sym (q .0), p .1 ∙ sym (q .1))
 
-pub encode : OneAnswer 3 encode-kinds.ps encode-kinds.r encode-reads.Post (λ κs x y s t. (x ≡ y) × (now (s .1 .1 .1 .1 .0) ≡ now (t .1 .1 .1 .1 .0)))
-encode κs a x y s t p q = (p .0 ∙ sym (q .0), p .1 ∙ sym (q .1))
+pub encode-log-item : OneAnswer 3 encode-kinds.ps encode-kinds.r encode-reads.Post (λ κs x y s t. (x ≡ y) × (now (s .1 .1 .1 .1 .0) ≡ now (t .1 .1 .1 .1 .0)))
+encode-log-item κs a x y s t p q = (p .0 ∙ sym (q .0), p .1 ∙ sym (q .1))
