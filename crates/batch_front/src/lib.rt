@@ -8,9 +8,10 @@ ghost use Rattle.log_item.specs.Private.{Room};
 use list_measure::Measured;
 use list_writer::Encoded;
 
-const HEADER_LEN: usize = 16;
+// The lengths of a header and of a checksum, which LogBatch has as its own.
+pub const HEADER_LEN: usize = 16;
 
-const CHECKSUM_LEN: usize = 4;
+pub const CHECKSUM_LEN: usize = 4;
 
 // Begins a whole batch whose body has this measure: decides every refusal, and where there is none writes header and block at the start
 // of out; the body is to follow, and ends at the length that is answered. Else out is as it was. No body has more than 4294967295

@@ -36,9 +36,9 @@ pub enum HeaderRead {
 }
 
 impl LogBatch {
-    pub const HEADER_LEN: usize = 16;
+    pub const HEADER_LEN: usize = batch_front::HEADER_LEN;
 
-    pub const CHECKSUM_LEN: usize = 4;
+    pub const CHECKSUM_LEN: usize = batch_front::CHECKSUM_LEN;
 
     // The frame of a batch that is not compressed.
     pub fn new(offset: usize, len: usize) -> LogBatch
