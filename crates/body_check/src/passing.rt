@@ -1,8 +1,8 @@
 // Going over an item without making it: the place after it, the total and the number of entries. What log_item's readers read, in their order.
 ghost use mathlib.Core.Path.{_≡_};
 ghost use Rattle.log_item.specs.Reading.{number, byte, span, command, keyValue, tail};
-ghost use Rattle.log_item.specs.Answers.{fieldGot, tailGot, passTails};
-ghost use Rattle.body_check.specs.Private.{placeOf, passedOf, noEntries, passRows, passEntries, passContent, passItem};
+ghost use Rattle.log_item.specs.Answers.{fieldGot, tailGot, passTails, passItem};
+ghost use Rattle.body_check.specs.Private.{placeAfter, passedOf, itemPassed, noEntries, passRows, passEntries, passContent};
 use crate::Passed;
 use crate::Place;
 use log_item::Field;
@@ -12,7 +12,7 @@ use log_item::read_number;
 
 // The item at a place, with `total` bytes of entries and `used` entries before it in the batch.
 pub(crate) fn pass_item(buf: &[u8], at: usize, total: u32, used: usize, form: Form) -> Passed
-    ensures { λ r. ⌜ r ≡ passedOf (passItem form (now (buf .entry)) used total at) ⌝ }
+    ensures { λ r. ⌜ r ≡ itemPassed (passItem form (now (buf .entry)) used total at) ⌝ }
 {
     match read_number(buf, at, form) {
         Field::Done { value: _, next } => match read_byte(buf, next) {
@@ -53,7 +53,7 @@ fn no_entries(place: Place, total: u32, used: usize) -> Passed
 }
 
 fn pass_command(buf: &[u8], at: usize, form: Form) -> Place
-    ensures { λ r. ⌜ r ≡ placeOf (command form (now (buf .entry)) at) ⌝ }
+    ensures { λ r. ⌜ r ≡ placeAfter (command form (now (buf .entry)) at) ⌝ }
 {
     match read_byte(buf, at) {
         Field::Done { value: kind, next } => {
@@ -77,7 +77,7 @@ fn pass_command(buf: &[u8], at: usize, form: Form) -> Place
 
 // An op with its key, and with its content where it is a put.
 fn pass_key(buf: &[u8], at: usize, form: Form) -> Place
-    ensures { λ r. ⌜ r ≡ placeOf (keyValue form (now (buf .entry)) at) ⌝ }
+    ensures { λ r. ⌜ r ≡ placeAfter (keyValue form (now (buf .entry)) at) ⌝ }
 {
     match read_byte(buf, at) {
         Field::Done { value: op, next } => {
@@ -98,7 +98,7 @@ fn pass_key(buf: &[u8], at: usize, form: Form) -> Place
 
 // A length and as many bytes.
 fn pass_span(buf: &[u8], at: usize, form: Form) -> Place
-    ensures { λ r. ⌜ r ≡ placeOf (span form (now (buf .entry)) at) ⌝ }
+    ensures { λ r. ⌜ r ≡ placeAfter (span form (now (buf .entry)) at) ⌝ }
 {
     match read_number(buf, at, form) {
         Field::Done { value, next } => {

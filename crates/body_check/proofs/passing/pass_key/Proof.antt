@@ -3,7 +3,7 @@
 use mathlib.Core.Path.{sym, ap, _∙_}
 use Rattle.log_item.specs.Answers.{fieldGot}
 use Rattle.log_item.proofs.Fields.{learnt, key-unknown, key-refused}
-use Rattle.body_check.specs.Private.{placeOf}
+use Rattle.body_check.specs.Private.{placeAfter}
 use Rattle.body_check.proofs.Going.{key-two, key-none, key-one}
 use borrow.Author.Needs.{needs}
 use Rattle.body_check.proofs.passing.pass_key.Statement.{statement}
@@ -53,10 +53,10 @@ enum-known-number-2 c = search needs
 returns-4 : tie.Need-returns-4
 returns-4 c =
     let op = c .before .before .before in
-    ap placeOf (key-unknown _ _ _ (learnt fieldGot (op .before .before .read-byte .ensures) (op .op .given .1)) (c .before .if1 .left) (c .if2 .left))
+    ap placeAfter (key-unknown _ _ _ (learnt fieldGot (op .before .before .read-byte .ensures) (op .op .given .1)) (c .before .if1 .left) (c .if2 .left))
 
 returns-5 : tie.Need-returns-5
-returns-5 c = ap placeOf (key-refused _ _ _ (learnt fieldGot (c .before .before .before .read-byte .ensures) (c .before .number2 .given .1)))
+returns-5 c = ap placeAfter (key-refused _ _ _ (learnt fieldGot (c .before .before .before .read-byte .ensures) (c .before .number2 .given .1)))
 
 pub pass-key-spec : {M : Type 1} → statement M
 pass-key-spec =

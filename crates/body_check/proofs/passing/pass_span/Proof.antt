@@ -4,7 +4,7 @@ use mathlib.Core.Path.{ap}
 use Rattle.log_item.specs.Answers.{fieldGot}
 use Rattle.log_item.proofs.Fields.{learnt, span-in, span-outside, span-refused}
 use Rattle.log_item.proofs.Known.{number-inside}
-use Rattle.body_check.specs.Private.{placeOf}
+use Rattle.body_check.specs.Private.{placeAfter}
 use native.Mathlib.Omega.{arith}
 use borrow.Author.Needs.{needs}
 use Rattle.body_check.proofs.passing.pass_span.Statement.{statement}
@@ -23,7 +23,7 @@ returns : tie.Need-returns
 returns c =
     let e = learnt fieldGot (c .before .before .before .before .read-number .ensures) (c .before .before .value .given .1) in
     let h = number-inside _ _ _ e in
-    ap placeOf (span-outside _ _ _ e (omega arith))
+    ap placeAfter (span-outside _ _ _ e (omega arith))
 
 add-t10 : tie.Need-add-t10
 add-t10 c = omega (arith, number-inside _ _ _ (learnt fieldGot (c .before .before .before .before .read-number .ensures) (c .before .before .value .given .1)))
@@ -35,10 +35,10 @@ returns-2 : tie.Need-returns-2
 returns-2 c =
     let e = learnt fieldGot (c .before .before .before .before .read-number .ensures) (c .before .before .value .given .1) in
     let h = number-inside _ _ _ e in
-    ap placeOf (span-in _ _ _ e (omega arith))
+    ap placeAfter (span-in _ _ _ e (omega arith))
 
 returns-3 : tie.Need-returns-3
-returns-3 c = ap placeOf (span-refused _ _ _ (learnt fieldGot (c .before .before .before .read-number .ensures) (c .before .number .given .1)))
+returns-3 c = ap placeAfter (span-refused _ _ _ (learnt fieldGot (c .before .before .before .read-number .ensures) (c .before .number .given .1)))
 
 pub pass-span-spec : {M : Type 1} → statement M
 pass-span-spec =
