@@ -1,7 +1,7 @@
 -- What going over the items without a table comes to: a law for each way out of the loop.
 -- Assumes nothing.
 use Prim.Native.Nat.{ℕ, zero, suc, _+_, _-_, _≤_, _<_}
-use mathlib.Core.Path.{_≡_, refl, sym, ap, ap₂, _∙_}
+use mathlib.Core.Path.{_≡_, refl, sym, ap₂, _∙_}
 use mathlib.Core.List.{List, [], _++_}
 use native.Mathlib.Omega.{arith}
 use native.Mathlib.Nat.{add-zero, zero-add}
@@ -22,6 +22,8 @@ use Rattle.body_check.specs.Reading.{Answer, accepted, rejected, before,
 use Rattle.body_check.specs.declared.PlainForm.the-variants as plain
 use Rattle.body_check.specs.Body.{readBody}
 use Rattle.seal.specs.Seal.{sealedPart, sealCheck}
+use Rattle.body_check.specs.declared.Passed.the-variants as passed
+use Rattle.body_check.specs.Private.{itemPassed}
 use Rattle.body_check.specs.Answers.{checkOf, plainOf, plainBody}
 use Rattle.seal.proofs.Sealing.{seal-long}
 use Rattle.body_check.proofs.Bodies.{body-refused}
@@ -71,26 +73,24 @@ module _ (form : Form) (s : List ℕ) where
       record { few = omega arith; comes = rw all (onto-none (items form s count 0 0 0 start)) }
 
   module _ (k i e t p : ℕ) where
-    one-more : {x : LogItem} {u m q : ℕ} → passItem form s e t p ≡ got (record { item = x; total = u; used = m }) q
-        → onto i e (items form s (suc k) i e t p) ≡ onto (i + 1) m (items form s k (i + 1) m u q)
+    one-more : {u m q : ℕ} → passed.Done q u m ≡ itemPassed (passItem form s e t p) → onto i e (items form s (suc k) i e t p) ≡ onto (i + 1) m (items form s k (i + 1) m u q)
     unfolding items passItem
-    one-more {x} {u} {m} {q} h = go (oneItem form s e t p) h
+    one-more {u} {m} {q} h = go (oneItem form s e t p) h
       where
-        go : (g : Got Read) → bind {A = Read} {B = Passed} g (λ r. done (record { item = r .item; total = r .total; used = e + length (r .rows) })) ≡ got (record { item = x; total = u; used = m }) q
+        go : (g : Got Read) → passed.Done q u m ≡ itemPassed (bind {A = Read} {B = Passed} g (λ r. done (record { item = r .item; total = r .total; used = e + length (r .rows) })))
             → onto i e (inFront i g (λ r z. items form s k (i + 1) (e + length (r .rows)) (r .total) z)) ≡ onto (i + 1) m (items form s k (i + 1) m u q)
         go (got r z) f =
-            let y : _≡_ {A = Passed} (record { item = r .item; total = r .total; used = e + length (r .rows) }) (record { item = x; total = u; used = m }) = cc in
             let place : z ≡ q = cc in
-            let total : r .total ≡ u = ap (λ (a : Passed). a .total) y in
-            let used : e + length (r .rows) ≡ m = ap (λ (a : Passed). a .used) y in
+            let total : r .total ≡ u = cc in
+            let used : e + length (r .rows) ≡ m = cc in
             onto-before i e (r .item) (r .rows) (items form s k (i + 1) (e + length (r .rows)) (r .total) z) ∙ rw (place, total, used)
         go (refused r) f = let z : _≡_ {A = ℕ} 0 1 = cc in absurd (omega arith)
 
-    stop : {r : ℕ} → passItem form s e t p ≡ refused r → onto i e (items form s (suc k) i e t p) ≡ Refused (record { number = r; item = i })
+    stop : {r : ℕ} → passed.Refused r ≡ itemPassed (passItem form s e t p) → onto i e (items form s (suc k) i e t p) ≡ Refused (record { number = r; item = i })
     unfolding items passItem
     stop {r} h = go (oneItem form s e t p) h
       where
-        go : (g : Got Read) → bind {A = Read} {B = Passed} g (λ r. done (record { item = r .item; total = r .total; used = e + length (r .rows) })) ≡ refused r
+        go : (g : Got Read) → passed.Refused r ≡ itemPassed (bind {A = Read} {B = Passed} g (λ r. done (record { item = r .item; total = r .total; used = e + length (r .rows) })))
             → onto i e (inFront i g (λ r z. items form s k (i + 1) (e + length (r .rows)) (r .total) z)) ≡ Refused (record { number = r; item = i })
         go (got x z) f = let z : _≡_ {A = ℕ} 0 1 = cc in absurd (omega arith)
         go (refused x) f = let y : x ≡ r = cc in rw y
@@ -104,10 +104,10 @@ module _ (form : Form) (s : List ℕ) where
       rest : count - i ≡ suc (count - (i + 1))
       rest = omega arith
 
-      pub left-more : {x : LogItem} {u m q : ℕ} → passItem form s used total at ≡ got (record { item = x; total = u; used = m }) q → Left count start (i + 1) q u m
+      pub left-more : {u m q : ℕ} → passed.Done q u m ≡ itemPassed (passItem form s used total at) → Left count start (i + 1) q u m
       left-more h = record { few = omega arith; comes = sym (one-more (count - (i + 1)) i used total at h) ∙ rw (← rest) (l .comes) }
 
-      pub left-refused : {r : ℕ} → passItem form s used total at ≡ refused r → Refused (record { number = r; item = i }) ≡ checkOf (items form s count 0 0 0 start)
+      pub left-refused : {r : ℕ} → passed.Refused r ≡ itemPassed (passItem form s used total at) → Refused (record { number = r; item = i }) ≡ checkOf (items form s count 0 0 0 start)
       left-refused h = sym (stop (count - (i + 1)) i used total at h) ∙ rw (← rest) (l .comes)
 
     pub left-end : count ≤ i → Accepted count used total at ≡ checkOf (items form s count 0 0 0 start)

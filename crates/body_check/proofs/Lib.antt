@@ -1,4 +1,5 @@
 pub mod Bodies
+pub mod Going
 pub mod Checking
 pub mod Refusing
 pub mod Determined

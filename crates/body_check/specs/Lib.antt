@@ -2,3 +2,4 @@ pub mod Reading
 pub mod Body
 pub mod Answers
 pub mod Total
+pub mod Private

@@ -1,8 +1,7 @@
 -- `body_check::check_from` meets its contract. The loop's invariant, `Left`: what is still to be read comes to what the whole comes to.
 -- Assumes nothing.
 use Prim.Native.Nat.{_-_}
-use Rattle.log_item.specs.Answers.{itemGot}
-use Rattle.field.proofs.Fields.{learnt}
+use mathlib.Core.Path.{sym, _∙_}
 use Rattle.body_check.proofs.Checking.{Left, left-start, left-more, left-refused, left-end}
 use borrow.Author.Needs.{needs}
 use Rattle.body_check.proofs.check_from.Statement.{statement}
@@ -30,13 +29,13 @@ loop-less : tie.Need-loop-less Inv-loop μ-loop
 loop-less c = search needs
 
 loop-again : tie.Need-loop-again Inv-loop μ-loop
-loop-again c = left-more _ _ (c .before .before .before .before .before .loop .inv) (c .before .before .before .before .loop-test .taken) (learnt itemGot (c .before .before .before .pass-item .ensures) (c .before .next .given .1))
+loop-again c = left-more _ _ (c .before .before .before .before .before .loop .inv) (c .before .before .before .before .loop-test .taken) (sym (c .before .next .given .1) ∙ c .before .before .before .pass-item .ensures)
 
 enum-known-number : tie.Need-enum-known-number Inv-loop μ-loop
 enum-known-number c = search needs
 
 returns : tie.Need-returns Inv-loop μ-loop
-returns c = left-refused _ _ (c .before .before .before .before .before .loop .inv) (c .before .before .before .before .loop-test .taken) (learnt itemGot (c .before .before .before .pass-item .ensures) (c .before .number .given .1))
+returns c = left-refused _ _ (c .before .before .before .before .before .loop .inv) (c .before .before .before .before .loop-test .taken) (sym (c .before .number .given .1) ∙ c .before .before .before .pass-item .ensures)
 
 returns-2 : tie.Need-returns-2 Inv-loop μ-loop
 returns-2 c = left-end _ _ (c .before .loop .inv) (c .loop-test .left)

@@ -1,4 +1,4 @@
--- `body_check::pass_tails` meets its contract. The tails that are left come to what all of them do.
+-- `body_check::passing::pass_tails` meets its contract. The tails that are left come to what all of them do.
 -- Assumes nothing.
 use mathlib.Core.Path.{_≡_, refl, _∙_}
 use Rattle.log_item.specs.Answers.{tailGot, passTails}
@@ -6,8 +6,8 @@ use Rattle.field.proofs.Fields.{learnt}
 use Rattle.log_item.proofs.Passing.{pass-end, pass-next, pass-stop}
 use borrow.Author.Needs.{needs}
 use native.Mathlib.Omega.{arith}
-use Rattle.body_check.proofs.pass_tails.Statement.{statement}
-use Rattle.body_check.proofs.pass_tails.Tie as tie
+use Rattle.body_check.proofs.passing.pass_tails.Statement.{statement}
+use Rattle.body_check.proofs.passing.pass_tails.Tie as tie
 
 abbrev Inv-loop : tie.InvT-loop
 Inv-loop buf at count before form left₀ total₀ place₀ left total place = passTails form buf left total place ≡ passTails form buf count before at

@@ -1,12 +1,12 @@
--- `body_check::tail_at` meets its contract.
+-- `body_check::passing::tail_at` meets its contract.
 -- Assumes nothing.
 use Rattle.field.specs.Answers.{fieldGot}
 use Rattle.field.proofs.Fields.{learnt}
 use Rattle.log_item.proofs.Parts.{tail-large, tail-falls, tail-done, tail-refused}
 use native.Mathlib.Omega.{arith}
 use borrow.Author.Needs.{needs}
-use Rattle.body_check.proofs.tail_at.Statement.{statement}
-use Rattle.body_check.proofs.tail_at.Tie as tie
+use Rattle.body_check.proofs.passing.tail_at.Statement.{statement}
+use Rattle.body_check.proofs.passing.tail_at.Tie as tie
 
 read-tail-requires : tie.Need-read-tail-requires
 read-tail-requires c κs = search needs

@@ -1,11 +1,11 @@
--- `body_check::read_tail` meets its contract.
+-- `body_check::passing::read_tail` meets its contract.
 -- Assumes nothing.
 use Prim.Native.Nat.{_+_}
 use native.Mathlib.Omega.{arith}
 use Rattle.body_check.proofs.Short.{two, three}
 use borrow.Author.Needs.{needs}
-use Rattle.body_check.proofs.read_tail.Statement.{statement}
-use Rattle.body_check.proofs.read_tail.Tie as tie
+use Rattle.body_check.proofs.passing.read_tail.Statement.{statement}
+use Rattle.body_check.proofs.passing.read_tail.Tie as tie
 
 enum-told : tie.Need-enum-told
 enum-told c = search needs
