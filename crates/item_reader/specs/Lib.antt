@@ -2,3 +2,4 @@ pub mod Rows
 pub mod Steps
 pub mod Reader
 pub mod Stepping
+pub mod Private

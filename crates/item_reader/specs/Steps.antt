@@ -17,8 +17,6 @@ use Rattle.item_reader.specs.declared.EntryRows.{EntryRows}
 use Rattle.item_reader.specs.declared.Next.{Next}
 use Rattle.item_reader.specs.declared.Next.the-variants as next
 use Rattle.item_reader.specs.declared.Step.{Step}
-use Rattle.item_reader.specs.declared.Stepped.{Stepped}
-use Rattle.item_reader.specs.declared.Stepped.the-variants as stepped
 
 -- where the rows of entries stand whose tails begin at p, with the total t before them
 abbrev pub rowsFrom : EntryIndexes → ℕ → ℕ → EntryRows
@@ -30,10 +28,6 @@ pub record Found : Type 0 where
   pub rows : EntryRows
   pub total : ℕ
   pub used : ℕ
-
-abbrev pub foundGot : Stepped → Got Found
-foundGot (stepped.Done x rows q u e) = got (record { item = x; rows = rows; total = u; used = e }) q
-foundGot (stepped.Refused n) = refused n
 
 -- an item, with e entries and the total t before it: as the plain reading reads it, but that its rows are not kept, and the place where they begin is
 unfoldable pub itemAt : List ℕ → ℕ → ℕ → Reading Found

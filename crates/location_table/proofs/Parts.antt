@@ -20,7 +20,8 @@ use Rattle.location_rules.specs.Parts.{inReach}
 use Rattle.location_rules.specs.Decisions.{unchanged, noRun}
 use Rattle.memtable.specs.Rewriting.{rewriteOf, rowsAfter}
 use Rattle.memtable.specs.Fetching.{fetchOf}
-use Rattle.location_table.specs.Values.{rowsUsed, answerOf, fetchedOf, rewriteValue, rowsValue, fetchValue}
+use Rattle.location_table.specs.Private.{rowsUsed}
+use Rattle.location_table.specs.Values.{answerOf, fetchedOf, rewriteValue, rowsValue, fetchValue}
 
 -- the three ways to use rows
 module _ (len other : ℕ) where

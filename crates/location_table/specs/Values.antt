@@ -15,9 +15,6 @@ use Rattle.location_rules.specs.Decisions.{unchanged, noRun}
 use Rattle.memtable.specs.Rewriting.{rewriteOf, rowsAfter}
 use Rattle.memtable.specs.Fetching.{fetchOf}
 
-unfoldable pub rowsUsed : ℕ → ℕ → ℕ
-rowsUsed len count = cond (inReach len count) len 0
-
 -- more than 64 rows: 21, nothing replaced and the old count
 unfoldable pub answerOf : ℕ → ℕ → Table → Rewritten → Rewritten
 answerOf len count t r = cond (inReach len count) r (unchanged 21 t)

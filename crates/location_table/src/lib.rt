@@ -1,7 +1,8 @@
 // Tables of at most 64 locations, by value: what calls these functions holds no slice of locations, and is covered. Each lends its
 // arrays to memtable's function of the same name.
 ghost use mathlib.Core.Path.{_≡_};
-ghost use Rattle.location_table.specs.Values.{rowsUsed, rewriteValue, rowsValue, fetchValue, answerOf, fetchedOf};
+ghost use Rattle.location_table.specs.Private.{rowsUsed};
+ghost use Rattle.location_table.specs.Values.{rewriteValue, rowsValue, fetchValue, answerOf, fetchedOf};
 use location_rules::Fetched;
 use location_rules::Gate;
 use location_rules::Rewritten;

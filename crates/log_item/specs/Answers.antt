@@ -6,41 +6,13 @@ use lib.ListN.{length}
 use Rattle.field.specs.Got.{Got, got, refused, Reading, done, bind, _>>=_}
 use Rattle.log_item.specs.Reading.{tails, oneItem}
 use Rattle.field.specs.declared.Form.{Form}
-use Rattle.log_item.specs.declared.Command.{Command}
-use Rattle.log_item.specs.declared.KeyValue.{KeyValue}
-use Rattle.log_item.specs.declared.EntryIndexes.{EntryIndexes}
-use Rattle.log_item.specs.declared.LogItemContent.{LogItemContent}
 use Rattle.log_item.specs.declared.LogItem.{LogItem}
-use Rattle.log_item.specs.declared.CommandRead.{CommandRead}
-use Rattle.log_item.specs.declared.CommandRead.the-variants as command
-use Rattle.log_item.specs.declared.KeyValueRead.{KeyValueRead}
-use Rattle.log_item.specs.declared.KeyValueRead.the-variants as keyValue
-use Rattle.log_item.specs.declared.EntryIndexesRead.{EntryIndexesRead}
-use Rattle.log_item.specs.declared.EntryIndexesRead.the-variants as entries
-use Rattle.log_item.specs.declared.ContentRead.{ContentRead}
-use Rattle.log_item.specs.declared.ContentRead.the-variants as content
 use Rattle.log_item.specs.declared.HeadRead.{HeadRead}
 use Rattle.log_item.specs.declared.HeadRead.the-variants as head
 use Rattle.log_item.specs.declared.TailRead.{TailRead}
 use Rattle.log_item.specs.declared.TailRead.the-variants as tail
 use Rattle.log_item.specs.declared.ItemRead.{ItemRead}
 use Rattle.log_item.specs.declared.ItemRead.the-variants as item
-
-abbrev pub commandGot : CommandRead → Got Command
-commandGot (command.Done x q) = got x q
-commandGot (command.Refused r) = refused r
-
-abbrev pub keyValueGot : KeyValueRead → Got KeyValue
-keyValueGot (keyValue.Done x q) = got x q
-keyValueGot (keyValue.Refused r) = refused r
-
-abbrev pub entriesGot : EntryIndexesRead → Got EntryIndexes
-entriesGot (entries.Done x q) = got x q
-entriesGot (entries.Refused r) = refused r
-
-abbrev pub contentGot : ContentRead → Got LogItemContent
-contentGot (content.Done x q) = got x q
-contentGot (content.Refused r) = refused r
 
 abbrev pub headGot : HeadRead → Got LogItem
 headGot (head.Done x q) = got x q

@@ -18,6 +18,35 @@ use Rattle.log_item.specs.Bytes.{entriesBytes, commandBytes, tailsBytes}
 use Rattle.log_item.specs.Written.{sumOf}
 use Rattle.log_item.specs.declared.TailsSize.{TailsSize}
 use Rattle.log_item.specs.declared.TailsSize.the-variants.{Fine, TooLarge}
+use Rattle.field.specs.Got.{Got, got, refused}
+use Rattle.log_item.specs.declared.Command.{Command}
+use Rattle.log_item.specs.declared.KeyValue.{KeyValue}
+use Rattle.log_item.specs.declared.EntryIndexes.{EntryIndexes}
+use Rattle.log_item.specs.declared.CommandRead.{CommandRead}
+use Rattle.log_item.specs.declared.CommandRead.the-variants as command
+use Rattle.log_item.specs.declared.KeyValueRead.{KeyValueRead}
+use Rattle.log_item.specs.declared.KeyValueRead.the-variants as keyValue
+use Rattle.log_item.specs.declared.EntryIndexesRead.{EntryIndexesRead}
+use Rattle.log_item.specs.declared.EntryIndexesRead.the-variants as entries
+use Rattle.log_item.specs.declared.ContentRead.{ContentRead}
+use Rattle.log_item.specs.declared.ContentRead.the-variants as content
+
+-- what the readers of contents answer, in the words of the definitions
+abbrev pub commandGot : CommandRead → Got Command
+commandGot (command.Done x q) = got x q
+commandGot (command.Refused r) = refused r
+
+abbrev pub keyValueGot : KeyValueRead → Got KeyValue
+keyValueGot (keyValue.Done x q) = got x q
+keyValueGot (keyValue.Refused r) = refused r
+
+abbrev pub entriesGot : EntryIndexesRead → Got EntryIndexes
+entriesGot (entries.Done x q) = got x q
+entriesGot (entries.Refused r) = refused r
+
+abbrev pub contentGot : ContentRead → Got LogItemContent
+contentGot (content.Done x q) = got x q
+contentGot (content.Refused r) = refused r
 
 -- bytes fit from a place on
 pub record Room (out : List ℕ) (at : ℕ) (bs : List ℕ) : Type 0 where

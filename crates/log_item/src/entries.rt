@@ -1,7 +1,8 @@
 // An entries item: its first index, and the way over its tails.
 ghost use mathlib.Core.Path.{_≡_};
 ghost use Rattle.log_item.specs.Reading.{firstIndex};
-ghost use Rattle.log_item.specs.Answers.{entriesGot, tailGot, passTails};
+ghost use Rattle.log_item.specs.Private.{entriesGot};
+ghost use Rattle.log_item.specs.Answers.{tailGot, passTails};
 use crate::EntryIndexes;
 use crate::EntryIndexesRead;
 use crate::TailRead;

@@ -51,7 +51,8 @@ use Rattle.pipe_log.proofs.Location.Laws as T′
 use Rattle.location_rules.specs.declared.Table.{Table}
 use Rattle.location_rules.specs.declared.Fetched.{Fetched}
 use Rattle.memtable.specs.Fetching.{fetchOf}
-use Rattle.location_table.specs.Values.{rowsUsed, fetchedOf, fetchValue}
+use Rattle.location_table.specs.Private.{rowsUsed}
+use Rattle.location_table.specs.Values.{fetchedOf, fetchValue}
 use Rattle.location_table.proofs.Cut.{rows-cut, rows-join}
 use Rattle.location_table.proofs.Parts.{used-le, part-long, part-room, whole-long, fetch-is}
 use Rattle.location_rules.proofs.Table as Tb

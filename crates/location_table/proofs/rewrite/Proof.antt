@@ -53,7 +53,8 @@ use Rattle.location_rules.specs.declared.Table.{Table}
 use Rattle.location_rules.specs.declared.Gate.{Gate}
 use Rattle.location_rules.specs.declared.Rewritten.{Rewritten}
 use Rattle.memtable.specs.Rewriting.{rewriteOf, rowsAfter}
-use Rattle.location_table.specs.Values.{rowsUsed, answerOf, rewriteValue}
+use Rattle.location_table.specs.Private.{rowsUsed}
+use Rattle.location_table.specs.Values.{answerOf, rewriteValue}
 use Rattle.location_table.proofs.Cut.{rows-cut, rows-join}
 use Rattle.location_table.proofs.Parts.{used-le, part-long, part-room, whole-long, answer-is}
 use Rattle.location_rules.proofs.Table as Tb
