@@ -12,7 +12,7 @@ use Rattle.list_measure.specs.declared.Measured.{Measured}
 use Rattle.list_writer.specs.declared.Encoded.{Encoded}
 use Rattle.list_measure.specs.Answers.{measureOf}
 use Rattle.list_writer.specs.Answers.{encodedOf, laid}
-use Rattle.rows_writer.specs.Rows.{rowCount, rowItems, entryLengths, measureRows, rowsBytes}
+use Rattle.rows_writer.specs.Rows.{itemRowCount, rowItems, entryLengths, measureRows, rowsBytes}
 use Rattle.rows_writer.proofs.RowsMeasuring.{rows-accepted}
 use Rattle.batch_front.specs.Front.{batchEncoded, FrontWritten}
 use Rattle.log_batch.specs.Written.{framed}
@@ -30,12 +30,12 @@ module _ (s : List ℕ) (checked : Bool) (items entries : List ℕ) {m : Measure
       go true h = omega (arith, eqb-true (m .length) 0 h)
       go false h = body-small s checked (rowItems items) (entryLengths entries) (rows-accepted s checked items entries same (eqb-false (m .length) 0 h) .1)
 
-  module _ (content out : List ℕ) {r : Encoded} {mid : List ℕ} (begun : FrontWritten m (rowCount items) content out r mid) where
-    told : r ≡ batchEncoded m (rowCount items) content (length out)
+  module _ (content out : List ℕ) {r : Encoded} {mid : List ℕ} (begun : FrontWritten m (itemRowCount items) content out r mid) where
+    told : r ≡ batchEncoded m (itemRowCount items) content (length out)
     told = begun-told begun rows-small
 
     answers : r ≡ rowsEncoded checked items entries s content out
-    answers = told ∙ ap (λ (x : Measured). batchEncoded x (rowCount items) content (length out)) same
+    answers = told ∙ ap (λ (x : Measured). batchEncoded x (itemRowCount items) content (length out)) same
 
     pub rows-left : (signature : ℕ) → r .length ≡ 0 → RowsWritten checked items entries s content signature out r mid
     rows-left signature h =
@@ -43,8 +43,8 @@ module _ (s : List ℕ) (checked : Bool) (items entries : List ℕ) {m : Measure
 
     module _ (h : r .length ≡ 0 → ⊥) where
       -- what a length that is not 0 tells
-      each : (length (rowItems items) ≡ rowCount items) × (m ≡ measureOf s checked (rowItems items) (entryLengths entries))
-      each = rows-accepted s checked items entries same (planned m (rowCount items) content (length out) told h .some)
+      each : (length (rowItems items) ≡ itemRowCount items) × (m ≡ measureOf s checked (rowItems items) (entryLengths entries))
+      each = rows-accepted s checked items entries same (planned m (itemRowCount items) content (length out) told h .some)
 
       pub rows-behind : m .length ≤ r .length
       rows-behind = body-behind begun rows-small h

@@ -10,7 +10,7 @@ use Rattle.body_check.specs.declared.BodyCheck.{BodyCheck}
 use Rattle.body_check.specs.declared.BodyCheck.the-variants.{Accepted, Refused}
 use Rattle.list_writer.specs.declared.Encoded.{Encoded}
 use Rattle.list_writer.specs.Answers.{laid}
-use Rattle.rows_writer.specs.Rows.{rowCount, measureRows, rowsBytes}
+use Rattle.rows_writer.specs.Rows.{itemRowCount, measureRows, rowsBytes}
 use Rattle.rows_reader.specs.Lent.{RowsRead}
 use Rattle.batch_rows.specs.declared.BatchCheck.{BatchCheck}
 use Rattle.log_batch.specs.Batch.{sealedBatch, batchAnswer, bodyPlace, blockPlace}
@@ -32,7 +32,7 @@ pub record BatchRead (s : List ℕ) (signature : ℕ) (items entries : List ℕ)
 
 -- what is answered to the items of rows with the lengths of their entries
 abbrev pub rowsEncoded : Bool → List ℕ → List ℕ → List ℕ → List ℕ → List ℕ → Encoded
-rowsEncoded checked items entries store content out = batchEncoded (measureRows store checked items entries) (rowCount items) content (length out)
+rowsEncoded checked items entries store content out = batchEncoded (measureRows store checked items entries) (itemRowCount items) content (length out)
 
 -- the answer r, and the later contents of out: the batch, then what stood there; out as it was where nothing is written
 pub record RowsWritten (checked : Bool) (items entries store content : List ℕ) (signature : ℕ) (out : List ℕ) (r : Encoded) (later : List ℕ) : Type 0 where

@@ -24,13 +24,13 @@ use Rattle.item_batch.specs.declared.LogItemBatch.{LogItemBatch}
 abbrev pub listed : LogItemBatch → List LogItem
 listed t = itemsOf (t .items) (t .«item_count»)
 
-abbrev pub rowLengths : LogItemBatch → List ℕ
-rowLengths t = lengthsOf (t .entries) (t .«entry_count»)
+abbrev pub tableLengths : LogItemBatch → List ℕ
+tableLengths t = lengthsOf (t .entries) (t .«entry_count»)
 
 -- the answer r and the later contents of out: the body's bytes, then what stood there; out as it was where the body is refused
 pub record BodyWritten (checked : Bool) (t : LogItemBatch) (store : List ℕ) (signature : ℕ) (out : List ℕ) (r : Encoded) (later : List ℕ) : Type 0 where
-  pub answer : r ≡ encodedOf (measureOf store checked (listed t) (rowLengths t)) out 0
-  pub written : later ≡ laid r out 0 (bodyBytes store (listed t) (rowLengths t) signature)
+  pub answer : r ≡ encodedOf (measureOf store checked (listed t) (tableLengths t)) out 0
+  pub written : later ≡ laid r out 0 (bodyBytes store (listed t) (tableLengths t) signature)
 
 -- the items that are written from the place p on, each with its places worked out afresh: it stands where the one before ended
 unfoldable pub itemsAt : List ℕ → List LogItem → List ℕ → ℕ → ℕ → List LogItem

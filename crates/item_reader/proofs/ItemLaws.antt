@@ -19,41 +19,41 @@ use Rattle.log_item.specs.declared.EntryIndexes.{EntryIndexes}
 use Rattle.item_reader.specs.declared.EntryRows.{EntryRows}
 use Rattle.item_reader.specs.declared.Next.the-variants as next
 use Rattle.item_reader.specs.declared.Step.{Step}
-use Rattle.item_reader.specs.Steps.{rowsFrom, Found, itemAt, stayed, unlessRefused, stepOf}
+use Rattle.item_reader.specs.Steps.{rowsStanding, FoundItem, foundAt, stayed, stepUnless, stepOf}
 
 -- ---- the item at a place
 
 module _ (s : List ℕ) (e t p : ℕ) where
-  pub no-head : {n : ℕ} → head Any s e p ≡ refused n → refused n ≡ itemAt s e t p
-  unfolding itemAt
+  pub no-head : {n : ℕ} → head Any s e p ≡ refused n → refused n ≡ foundAt s e t p
+  unfolding foundAt
   no-head h = rw h
 
   module _ {x : LogItem} {q : ℕ} (h : head Any s e p ≡ got x q) {d : EntryIndexes} (k : d ≡ entriesOf (x .content)) where
     -- what is found, where the rows are those of the tails
-    abbrev pub foundBy : Got (List EntryIndex × ℕ) → Got Found
-    foundBy g = bind g (λ r. done (record { item = x; rows = rowsFrom d q t; total = r .1; used = e + length (r .0) }))
+    abbrev pub foundBy : Got (List EntryIndex × ℕ) → Got FoundItem
+    foundBy g = bind g (λ r. done (record { item = x; rows = rowsStanding d q t; total = r .1; used = e + length (r .0) }))
 
-    pub by-tails : itemAt s e t p ≡ foundBy (tails Any s (d .count) (d .«first_index») t q)
-    unfolding itemAt
+    pub by-tails : foundAt s e t p ≡ foundBy (tails Any s (d .count) (d .«first_index») t q)
+    unfolding foundAt
     by-tails = rw (h, ← k)
 
     -- the total and the place are those of going over the tails, and there are as many rows as tails
     found-by : {u z : ℕ} (g : Got (List EntryIndex × ℕ)) → ((r : List EntryIndex × ℕ) (o : ℕ) → g ≡ got r o → length (r .0) ≡ d .count) → totalOf g ≡ got u z
-        → got (record { item = x; rows = rowsFrom d q t; total = u; used = e + d .count }) z ≡ foundBy g
+        → got (record { item = x; rows = rowsStanding d q t; total = u; used = e + d .count }) z ≡ foundBy g
     found-by {u} {z} (got r o) as-many f =
         let place : z ≡ o = cc in
         let total : u ≡ r .1 = cc in
         rw (place, total, ← as-many r o refl)
     found-by (refused n) as-many f = let o : _≡_ {A = ℕ} 0 1 = cc in absurd (omega arith)
 
-    pub with-rows : {w : EntryRows} → w ≡ rowsFrom d q t → {u z : ℕ} → passTails Any s (d .count) t q ≡ got u z
-        → got (record { item = x; rows = w; total = u; used = e + d .count }) z ≡ itemAt s e t p
+    pub with-rows : {w : EntryRows} → w ≡ rowsStanding d q t → {u z : ℕ} → passTails Any s (d .count) t q ≡ got u z
+        → got (record { item = x; rows = w; total = u; used = e + d .count }) z ≡ foundAt s e t p
     with-rows k f =
         rw k (found-by (tails Any s (d .count) (d .«first_index») t q) (λ r o h. rows-length Any s (d .count) (d .«first_index») t q h)
         (total-pass Any s (d .count) (d .«first_index») t q ∙ f)
         ∙ sym by-tails)
 
-    pub no-tails : {n : ℕ} → passTails Any s (d .count) t q ≡ refused n → refused n ≡ itemAt s e t p
+    pub no-tails : {n : ℕ} → passTails Any s (d .count) t q ≡ refused n → refused n ≡ foundAt s e t p
     no-tails {n} f = go (tails Any s (d .count) (d .«first_index») t q) (total-pass Any s (d .count) (d .«first_index») t q ∙ f) ∙ sym by-tails
       where
         go : (g : Got (List EntryIndex × ℕ)) → totalOf g ≡ refused n → refused n ≡ foundBy g
@@ -62,7 +62,7 @@ module _ (s : List ℕ) (e t p : ℕ) where
 
 -- ---- the step
 
-other-step : (n : ℕ) (s r : Step) → (n ≡ 0 → ⊥) → r ≡ unlessRefused n s r
+other-step : (n : ℕ) (s r : Step) → (n ≡ 0 → ⊥) → r ≡ stepUnless n s r
 other-step zero s r h = absurd (h refl)
 other-step (suc n) s r h = refl
 
@@ -77,12 +77,12 @@ module _ (body : List ℕ) (at total used item count : ℕ) (refusal : Refusal) 
     step-end h e = rw (none, le-ltb _ _ h) e
 
     module _ (more : item < count) {n : ℕ} (k : n ≡ length body - 4) where
-      pub step-over : {f : Found} {q : ℕ} → itemAt (take n body) used total at ≡ got f q
+      pub step-over : {f : FoundItem} {q : ℕ} → foundAt (take n body) used total at ≡ got f q
           → record { at = q; total = f .total; used = f .used; item = item + 1; answer = next.Item (f .item) (f .rows) } ≡ stepOf body at total used item count refusal
       unfolding stepOf
       step-over e = rw (none, lt-ltb _ _ more, ← k, e)
 
-      pub step-broken : {m : ℕ} {s : Step} → itemAt (take n body) used total at ≡ refused m
+      pub step-broken : {m : ℕ} {s : Step} → foundAt (take n body) used total at ≡ refused m
           → s ≡ stayed at total used item (next.Refused (record { number = m; item = item })) → s ≡ stepOf body at total used item count refusal
       unfolding stepOf
       step-broken e h = rw (none, lt-ltb _ _ more, ← k, e) h

@@ -18,7 +18,7 @@ use Rattle.item_batch.specs.Table.{tableOf}
 use Rattle.item_reader.specs.declared.EntryRows.{EntryRows}
 use Rattle.item_reader.specs.declared.ItemReader.{ItemReader}
 use Rattle.item_reader.specs.declared.Next.the-variants as next
-use Rattle.item_reader.specs.Reader.{before, afterCount, opened, afterCalls, nthOf}
+use Rattle.item_reader.specs.Reader.{atFirst, afterCount, opened, afterCalls, nthOf}
 use Rattle.item_reader.specs.Stepping.{StepsThrough}
 use Rattle.item_reader.specs.Stepping as go
 use Rattle.item_reader.proofs.Opened.{in-body, opening-good, opening-bad, in-table}
@@ -32,14 +32,14 @@ module _ (body : RefT (List ℕ)) (signature : ℕ) where
       → StepsThrough (opened body signature) xs rows
   same-items {xs} e =
       rw (opening-good (now body) signature e)
-      (through.steps-through (length xs) (before body (record { at = afterCount (sealedPart (now body)); count = length xs; refusal = record { number = 0; item = 0 } })) refl
+      (through.steps-through (length xs) (atFirst body (record { at = afterCount (sealedPart (now body)); count = length xs; refusal = record { number = 0; item = 0 } })) refl
       (zero-add (length xs)) (in-body (now body) signature e))
 
   -- Or none and the same refusal, at every call.
   pub same-refusal : {n i : ℕ} → readBody (now body) signature ≡ rejected n i → (k : ℕ) → nthOf (opened body signature) k ≡ next.Refused (record { number = n; item = i })
   same-refusal {n} {i} e k =
       rw (opening-bad (now body) signature e)
-      (through.at-refusal (before body (record { at = 0; count = 0; refusal = record { number = n; item = i } })) (refusal-some (now body) signature e) k)
+      (through.at-refusal (atFirst body (record { at = 0; count = 0; refusal = record { number = n; item = i } })) (refusal-some (now body) signature e) k)
 
   -- The items and rows are those of the table that the plain reading fills.
   pub same-table : (place block : Span) {xs : List LogItem} {rows : List EntryIndex} {u q : ℕ} → readBody (now body) signature ≡ accepted xs rows u q

@@ -21,8 +21,8 @@ use Rattle.item_reader.specs.declared.Next.{Next}
 use Rattle.item_reader.specs.declared.Next.the-variants as next
 use Rattle.item_reader.specs.declared.RowRead.the-variants as row
 use Rattle.item_reader.specs.declared.Step.{Step}
-use Rattle.item_reader.specs.Rows.{rowAt}
-use Rattle.item_reader.specs.Steps.{rowsFrom, itemAt, stayed}
+use Rattle.item_reader.specs.Rows.{nextRow}
+use Rattle.item_reader.specs.Steps.{rowsStanding, foundAt, stayed}
 use Rattle.item_reader.specs.Reader.{stepFrom, moved, after, afterCalls, nthOf}
 use Rattle.item_reader.specs.Stepping.{GoesThrough, StepsThrough}
 use Rattle.item_reader.specs.Stepping as go
@@ -34,7 +34,7 @@ module _ (s : List ℕ) where
   -- n rows from the index i on. The index that is carried may come round to 0 once none is left.
   pub goes-through : (n i j t p : ℕ) → (0 < n → j ≡ i) → (0 < n → i + n ≤ 2 ^ 64) → {r : List EntryIndex × ℕ} {z : ℕ} → tails Any s n i t p ≡ got r z
       → GoesThrough s (record { at = p; total = t; index = j; left = n }) (r .0)
-  unfolding tails rowAt
+  unfolding tails nextRow
   goes-through zero i j t p same fits {r} e = let none : r .0 ≡ [] = cc in rw none (go.GoesThrough.end refl)
   goes-through (suc n) i j t p same fits {r} {z} e = by-tail (λ w q r z a b c. goes-through n (i + 1) ((j + 1) % 2 ^ 64) w q a b c) (tail Any s t p) refl e
     where
@@ -52,7 +52,7 @@ module _ (s : List ℕ) where
           let rows : r .0 ≡ record { index = i; «entry_offset» = t; «entry_len» = w - t } ∷ o .0 = cc in
           let turns : 0 < n → (j + 1) % 2 ^ 64 ≡ i + 1 = λ some. omega (arith, fits (omega arith)) in
           let room : 0 < n → i + 1 + n ≤ 2 ^ 64 = λ some. omega (arith, fits (omega arith)) in
-          let first : rowAt s (record { at = p; total = t; index = j; left = suc n })
+          let first : nextRow s (record { at = p; total = t; index = j; left = suc n })
           ≡ row.Row (record { index = i; «entry_offset» = t; «entry_len» = w - t }) (record { at = q; total = w; index = (j + 1) % 2 ^ 64; left = n }) = rw (f, here, less) in
           rw rows (go.GoesThrough.then first (ih w q o y turns room h))
       by-rows ih w q f (refused m) h c = let o : _≡_ {A = ℕ} 0 1 = cc in absurd (omega arith)
@@ -106,7 +106,7 @@ module _ (r : ItemReader) (none : r .refusal .number ≡ 0) (more : r .item < r 
   s = sealedPart (now (r .body))
 
   abbrev rows : EntryRows
-  rows = rowsFrom (entriesOf (x .content)) q (r .total)
+  rows = rowsStanding (entriesOf (x .content)) q (r .total)
 
   -- A step over an item whose head and tails are read.
   steps-over : stepFrom r ≡ record { at = z; total = o .1; used = r .used + length (o .0); item = r .item + 1; answer = next.Item x rows }
@@ -114,7 +114,7 @@ module _ (r : ItemReader) (none : r .refusal .number ≡ 0) (more : r .item < r 
       sym (step-over (now (r .body)) (r .at) (r .total) (r .used) (r .item) (r .count) (r .refusal) none more refl
       {f = record { item = x; rows = rows; total = o .1; used = r .used + length (o .0) }} {q = z} found)
     where
-      found : itemAt s (r .used) (r .total) (r .at) ≡ got (record { item = x; rows = rows; total = o .1; used = r .used + length (o .0) }) z
+      found : foundAt s (r .used) (r .total) (r .at) ≡ got (record { item = x; rows = rows; total = o .1; used = r .used + length (o .0) }) z
       found = rw (by-tails s (r .used) (r .total) (r .at) h refl, e)
 
   -- It hands out the item, whose rows are those of its tails, and then what the reader hands out after it.

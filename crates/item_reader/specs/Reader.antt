@@ -33,13 +33,13 @@ openingBy p (rejected r i) = record { at = 0; count = 0; refusal = record { numb
 unfoldable pub openingOf : List ℕ → ℕ → Opening
 openingOf body signature = openingBy (afterCount (sealedPart body)) (readBody body signature)
 
--- a reader that stands before the first item
-abbrev pub before : RefT (List ℕ) → Opening → ItemReader
-before body o = record { body = body; at = o .at; total = 0; used = 0; item = 0; count = o .count; refusal = o .refusal }
+-- a reader that stands atFirst the first item
+abbrev pub atFirst : RefT (List ℕ) → Opening → ItemReader
+atFirst body o = record { body = body; at = o .at; total = 0; used = 0; item = 0; count = o .count; refusal = o .refusal }
 
 -- a reader opened on a body under a signature
 abbrev pub opened : RefT (List ℕ) → ℕ → ItemReader
-opened body signature = before body (openingOf (now body) signature)
+opened body signature = atFirst body (openingOf (now body) signature)
 
 -- the next step of a reader
 abbrev pub stepFrom : ItemReader → Step

@@ -10,17 +10,17 @@ use Rattle.item_reader.specs.declared.RowRead.{RowRead}
 use Rattle.item_reader.specs.declared.RowRead.the-variants as row
 
 -- the row of a tail, and the rows after it. The index after the last entry may come round to 0
-abbrev pub rowOf : EntryRows → Got ℕ → RowRead
-rowOf r (got w q) =
+abbrev pub rowOfTail : EntryRows → Got ℕ → RowRead
+rowOfTail r (got w q) =
     row.Row
     (record { index = r .index; «entry_offset» = r .total; «entry_len» = w - r .total })
     (record { at = q; total = w; index = (r .index + 1) % 2 ^ 64; left = r .left - 1 })
-rowOf r (refused n) = row.Refused n
+rowOfTail r (refused n) = row.Refused n
 
 -- the row at the next tail, where there is one left
 abbrev pub ifLeft : ℕ → RowRead → RowRead
 ifLeft zero r = row.End
 ifLeft (suc n) r = r
 
-unfoldable pub rowAt : List ℕ → EntryRows → RowRead
-rowAt s r = ifLeft (r .left) (rowOf r (tail Any s (r .total) (r .at)))
+unfoldable pub nextRow : List ℕ → EntryRows → RowRead
+nextRow s r = ifLeft (r .left) (rowOfTail r (tail Any s (r .total) (r .at)))

@@ -11,13 +11,13 @@ use Rattle.item_reader.specs.declared.EntryRows.{EntryRows}
 use Rattle.item_reader.specs.declared.RowRead.the-variants as row
 use Rattle.item_reader.specs.declared.ItemReader.{ItemReader}
 use Rattle.item_reader.specs.declared.Next.the-variants as next
-use Rattle.item_reader.specs.Rows.{rowAt}
+use Rattle.item_reader.specs.Rows.{nextRow}
 use Rattle.item_reader.specs.Reader.{stepFrom, after, nthOf}
 
 -- Asked again and again from r on, there come these rows, and then the end.
 pub data GoesThrough (s : List ℕ) : EntryRows → List EntryIndex → Type 0 where
-  end : {r : EntryRows} → rowAt s r ≡ row.End → GoesThrough s r []
-  then : {r rest : EntryRows} {x : EntryIndex} {rows : List EntryIndex} → rowAt s r ≡ row.Row x rest → GoesThrough s rest rows → GoesThrough s r (x ∷ rows)
+  end : {r : EntryRows} → nextRow s r ≡ row.End → GoesThrough s r []
+  then : {r rest : EntryRows} {x : EntryIndex} {rows : List EntryIndex} → nextRow s r ≡ row.Row x rest → GoesThrough s rest rows → GoesThrough s r (x ∷ rows)
 
 -- Asked again and again, a reader hands out these items in this order, and then the end at every call. The rows are those of all its items.
 pub data StepsThrough : ItemReader → List LogItem → List EntryIndex → Type 0 where

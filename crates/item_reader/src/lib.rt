@@ -7,8 +7,8 @@
 ghost use mathlib.Core.Path.{_≡_};
 ghost use Prim.Native.Nat.{_-_};
 ghost use Rattle.seal.specs.Seal.{sealedPart};
-ghost use Rattle.item_reader.specs.Rows.{rowAt};
-ghost use Rattle.item_reader.specs.Steps.{rowsFrom, itemAt, stayed, stepOf};
+ghost use Rattle.item_reader.specs.Rows.{nextRow};
+ghost use Rattle.item_reader.specs.Steps.{rowsStanding, foundAt, stayed, stepOf};
 ghost use Rattle.item_reader.specs.Private.{foundGot};
 ghost use Rattle.item_reader.specs.Reader.{afterCount, openingOf, opened, stepFrom, after, nthOf};
 use body_check::BodyCheck;
@@ -144,7 +144,7 @@ pub fn nth(body: &[u8], signature: u32, k: usize) -> Next
 // The next of an item's rows, in the body that the item was read from, footer included: first with the rows that came with the item,
 // then with the rest that comes with each row.
 pub fn next_row(body: &[u8], rows: EntryRows) -> RowRead
-    ensures { λ r. ⌜ r ≡ rowAt (sealedPart (now (body .entry))) rows ⌝ }
+    ensures { λ r. ⌜ r ≡ nextRow (sealedPart (now (body .entry))) rows ⌝ }
 {
     let left = rows.left;
     if left == 0 {
@@ -262,7 +262,7 @@ fn stay(at: usize, total: u32, used: usize, item: usize, answer: Next) -> Step
 
 // The item at a place, with `total` bytes of entries and `used` entries before it in the body.
 fn read_item(buf: &[u8], at: usize, total: u32, used: usize) -> Stepped
-    ensures { λ r. ⌜ foundGot r ≡ itemAt (now (buf .entry)) used total at ⌝ }
+    ensures { λ r. ⌜ foundGot r ≡ foundAt (now (buf .entry)) used total at ⌝ }
 {
     match LogItem::decode_head(buf, at, used, Form::Any) {
         HeadRead::Done { item, next: tails } => {
@@ -286,7 +286,7 @@ fn read_item(buf: &[u8], at: usize, total: u32, used: usize) -> Stepped
 
 // The rows of an item, whose tails begin at a place, with the total before them.
 fn rows_of(entries: EntryIndexes, at: usize, total: u32) -> EntryRows
-    ensures { λ r. ⌜ r ≡ rowsFrom entries at total ⌝ }
+    ensures { λ r. ⌜ r ≡ rowsStanding entries at total ⌝ }
 {
     EntryRows {
         at,

@@ -10,21 +10,21 @@ use Rattle.log_item.specs.declared.Op.the-variants.{Put, Del}
 use Rattle.log_item.specs.declared.LogItemContent.{LogItemContent}
 use Rattle.log_item.specs.declared.LogItemContent.the-variants as contents
 use Rattle.log_item.specs.declared.LogItem.{LogItem}
-use Rattle.item_row.specs.declared.RowRead.the-variants.{Item}
-use Rattle.item_row.specs.Row.{itemOf, commandRow, keyRow, rowItem, rowAt, commandWords, keyWords, contentWords, itemWords}
+use Rattle.item_row.specs.declared.ItemRowRead.the-variants.{Item}
+use Rattle.item_row.specs.Row.{itemOf, commandRow, keyRow, rowItem, itemOfRow, commandWords, keyWords, contentWords, itemWords}
 
-pub spells-again : (x : LogItem) → rowAt (itemWords x) 0 ≡ Item x
-unfolding rowAt rowItem commandRow keyRow itemWords contentWords commandWords keyWords
+pub spells-again : (x : LogItem) → itemOfRow (itemWords x) 0 ≡ Item x
+unfolding itemOfRow rowItem commandRow keyRow itemWords contentWords commandWords keyWords
 spells-again x = go (x .content)
   where
     g : ℕ
     g = x .«raft_group_id»
 
-    with-op : (key : Span) (op : Op) → rowAt (g ∷ keyWords key op) 0 ≡ itemOf g (contents.Kv (record { key = key; op = op }))
+    with-op : (key : Span) (op : Op) → itemOfRow (g ∷ keyWords key op) 0 ≡ itemOf g (contents.Kv (record { key = key; op = op }))
     with-op key (Put v) = refl
     with-op key Del = refl
 
-    go : (c : LogItemContent) → rowAt (g ∷ contentWords c) 0 ≡ itemOf g c
+    go : (c : LogItemContent) → itemOfRow (g ∷ contentWords c) 0 ≡ itemOf g c
     go (contents.EntryIndexes e) = refl
     go (contents.Command Clean) = refl
     go (contents.Command (Compact i)) = refl

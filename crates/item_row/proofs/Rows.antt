@@ -7,8 +7,8 @@ use Rattle.field.specs.declared.Span.{Span}
 use Rattle.log_item.specs.declared.Command.the-variants.{Clean, Compact}
 use Rattle.log_item.specs.declared.Op.the-variants.{Put, Del}
 use Rattle.log_item.specs.declared.LogItemContent.the-variants as contents
-use Rattle.item_row.specs.declared.RowRead.{RowRead}
-use Rattle.item_row.specs.declared.RowRead.the-variants.{Refused}
+use Rattle.item_row.specs.declared.ItemRowRead.{ItemRowRead}
+use Rattle.item_row.specs.declared.ItemRowRead.the-variants.{Refused}
 use Rattle.item_row.specs.Row.{itemOf, spanOf, commandRow, keyRow, rowItem}
 
 module _ (group kind a : ℕ) where
@@ -45,12 +45,12 @@ module _ (group item-type kind a b c d : ℕ) where
   row-entries e = rw e
 
   module _ (one : item-type ≡ 1 → ⊥) where
-    pub row-command : {r : RowRead} → item-type ≡ 2 → r ≡ commandRow group kind a → r ≡ rowItem group item-type kind a b c d
+    pub row-command : {r : ItemRowRead} → item-type ≡ 2 → r ≡ commandRow group kind a → r ≡ rowItem group item-type kind a b c d
     unfolding rowItem
     row-command e f = rw e f
 
     module _ (two : item-type ≡ 2 → ⊥) where
-      pub row-key : {r : RowRead} {key value : Span} → item-type ≡ 3 → key ≡ spanOf a b → value ≡ spanOf c d → r ≡ keyRow group kind key value
+      pub row-key : {r : ItemRowRead} {key value : Span} → item-type ≡ 3 → key ≡ spanOf a b → value ≡ spanOf c d → r ≡ keyRow group kind key value
           → r ≡ rowItem group item-type kind a b c d
       unfolding rowItem
       row-key e g h f = rw (e, ← g, ← h) f

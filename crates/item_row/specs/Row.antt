@@ -14,33 +14,33 @@ use Rattle.log_item.specs.declared.LogItemContent.{LogItemContent}
 use Rattle.log_item.specs.declared.LogItemContent.the-variants as contents
 use Rattle.log_item.specs.declared.LogItem.{LogItem}
 use Rattle.log_item.specs.declared.EntryIndex.{EntryIndex}
-use Rattle.item_row.specs.declared.RowRead.{RowRead}
-use Rattle.item_row.specs.declared.RowRead.the-variants.{Item, Refused}
+use Rattle.item_row.specs.declared.ItemRowRead.{ItemRowRead}
+use Rattle.item_row.specs.declared.ItemRowRead.the-variants.{Item, Refused}
 
 -- ---- from words to an item
 
-abbrev pub itemOf : ℕ → LogItemContent → RowRead
+abbrev pub itemOf : ℕ → LogItemContent → ItemRowRead
 itemOf group content = Item (record { «raft_group_id» = group; content = content })
 
 abbrev pub spanOf : ℕ → ℕ → Span
 spanOf at len = record { at = at; len = len }
 
 -- 1 clean, or 2 compact and an index
-unfoldable pub commandRow : ℕ → ℕ → ℕ → RowRead
+unfoldable pub commandRow : ℕ → ℕ → ℕ → ItemRowRead
 commandRow group kind a =
     cond (eqb kind 1) (itemOf group (contents.Command Clean))
     (cond (eqb kind 2) (itemOf group (contents.Command (Compact a)))
     (Refused 11))
 
 -- 1 put (key, content) or 2 delete (key)
-unfoldable pub keyRow : ℕ → ℕ → Span → Span → RowRead
+unfoldable pub keyRow : ℕ → ℕ → Span → Span → ItemRowRead
 keyRow group kind key value =
     cond (eqb kind 1) (itemOf group (contents.Kv (record { key = key; op = Put value })))
     (cond (eqb kind 2) (itemOf group (contents.Kv (record { key = key; op = Del })))
     (Refused 12))
 
 -- the item of seven words; those that it has no use for do not matter
-unfoldable pub rowItem : ℕ → ℕ → ℕ → ℕ → ℕ → ℕ → ℕ → RowRead
+unfoldable pub rowItem : ℕ → ℕ → ℕ → ℕ → ℕ → ℕ → ℕ → ItemRowRead
 rowItem group item-type kind a b c d =
     cond (eqb item-type 1) (itemOf group (contents.EntryIndexes (record { count = a; «first_index» = b })))
     (cond (eqb item-type 2) (commandRow group kind a)
@@ -48,8 +48,8 @@ rowItem group item-type kind a b c d =
     (Refused 10)))
 
 -- the item of row i
-unfoldable pub rowAt : List ℕ → ℕ → RowRead
-rowAt words i =
+unfoldable pub itemOfRow : List ℕ → ℕ → ItemRowRead
+itemOfRow words i =
     rowItem (getD words (i * 7) 0) (getD words (i * 7 + 1) 0) (getD words (i * 7 + 2) 0) (getD words (i * 7 + 3) 0) (getD words (i * 7 + 4) 0)
     (getD words (i * 7 + 5) 0) (getD words (i * 7 + 6) 0)
 

@@ -10,17 +10,17 @@ use log_item::Op;
 use log_item::Span;
 
 // The item that words spell, or why they spell none.
-pub enum RowRead {
+pub enum ItemRowRead {
     Item(LogItem),
     Refused(u32),
 }
 
 // The item of seven words; those that it has no use for are not looked at.
-pub fn item_of(group: u64, item_type: u64, kind: u64, a: u64, b: u64, c: u64, d: u64) -> RowRead
+pub fn item_of(group: u64, item_type: u64, kind: u64, a: u64, b: u64, c: u64, d: u64) -> ItemRowRead
     ensures { λ r. ⌜ r ≡ rowItem group «item_type» kind a b c d ⌝ }
 {
     if item_type == 1 {
-        return RowRead::Item(LogItem {
+        return ItemRowRead::Item(LogItem {
             raft_group_id: group,
             content: LogItemContent::EntryIndexes(EntryIndexes {
                 count: a as usize,
@@ -34,34 +34,34 @@ pub fn item_of(group: u64, item_type: u64, kind: u64, a: u64, b: u64, c: u64, d:
     if item_type == 3 {
         return key_of(group, kind, span(a, b), span(c, d));
     }
-    RowRead::Refused(refusal::ITEM_TYPE_UNKNOWN)
+    ItemRowRead::Refused(refusal::ITEM_TYPE_UNKNOWN)
 }
 
 // 1 clean, 2 compact.
-fn command_of(group: u64, kind: u64, index: u64) -> RowRead
+fn command_of(group: u64, kind: u64, index: u64) -> ItemRowRead
     ensures { λ r. ⌜ r ≡ commandRow group kind index ⌝ }
 {
     if kind == 1 {
-        return RowRead::Item(LogItem {
+        return ItemRowRead::Item(LogItem {
             raft_group_id: group,
             content: LogItemContent::Command(Command::Clean),
         });
     }
     if kind == 2 {
-        return RowRead::Item(LogItem {
+        return ItemRowRead::Item(LogItem {
             raft_group_id: group,
             content: LogItemContent::Command(Command::Compact { index }),
         });
     }
-    RowRead::Refused(refusal::COMMAND_UNKNOWN)
+    ItemRowRead::Refused(refusal::COMMAND_UNKNOWN)
 }
 
 // 1 put, 2 delete.
-fn key_of(group: u64, kind: u64, key: Span, value: Span) -> RowRead
+fn key_of(group: u64, kind: u64, key: Span, value: Span) -> ItemRowRead
     ensures { λ r. ⌜ r ≡ keyRow group kind key value ⌝ }
 {
     if kind == 1 {
-        return RowRead::Item(LogItem {
+        return ItemRowRead::Item(LogItem {
             raft_group_id: group,
             content: LogItemContent::Kv(KeyValue {
                 key,
@@ -70,12 +70,12 @@ fn key_of(group: u64, kind: u64, key: Span, value: Span) -> RowRead
         });
     }
     if kind == 2 {
-        return RowRead::Item(LogItem {
+        return ItemRowRead::Item(LogItem {
             raft_group_id: group,
             content: LogItemContent::Kv(KeyValue { key, op: Op::Del }),
         });
     }
-    RowRead::Refused(refusal::OP_UNKNOWN)
+    ItemRowRead::Refused(refusal::OP_UNKNOWN)
 }
 
 fn span(at: u64, len: u64) -> Span

@@ -12,7 +12,7 @@ use Rattle.log_item.specs.declared.Head.the-variants.{Fine, Refused}
 use Rattle.log_item.specs.Bytes.{headBytes}
 use Rattle.log_item.specs.Refusing.{contentRefusal}
 use Rattle.log_item.specs.Written.{capped, headOf, measureItem}
-use Rattle.list_measure.specs.Refusing.{Verdict, fine, refused, unless}
+use Rattle.list_measure.specs.Refusing.{Verdict, fine, refused, unlessItem}
 
 module _ (s : List ℕ) (checked : Bool) (used rows : ℕ) (x : LogItem) where
   pub head-fine : (a b : ℕ) → measureItem s checked used rows x ≡ Fine a b
@@ -26,16 +26,16 @@ module _ (s : List ℕ) (checked : Bool) (used rows : ℕ) (x : LogItem) where
       go (suc r) h = absurd (let z : _≡_ {A = ℕ} 0 1 = cc in omega arith)
 
   pub head-refused : (n k : ℕ) (v : Verdict) → measureItem s checked used rows x ≡ Refused n
-      → unless (contentRefusal s checked used rows (x .content)) k v ≡ refused n k
+      → unlessItem (contentRefusal s checked used rows (x .content)) k v ≡ refused n k
   unfolding measureItem
   head-refused n k v e = go (contentRefusal s checked used rows (x .content)) e
     where
-      go : (r : ℕ) → headOf r (capped (length (headBytes s x))) (entriesOf (x .content) .count) ≡ Refused n → unless r k v ≡ refused n k
+      go : (r : ℕ) → headOf r (capped (length (headBytes s x))) (entriesOf (x .content) .count) ≡ Refused n → unlessItem r k v ≡ refused n k
       go zero h = absurd (let z : _≡_ {A = ℕ} 0 1 = cc in omega arith)
       go (suc r) h = let q : suc r ≡ n = cc in ap (λ (m : ℕ). refused m k) q
 
 -- Where a verdict is fine, no test before it refused.
-pub unless-fine : (r k : ℕ) (v : Verdict) (t : ℕ) → unless r k v ≡ fine t → (r ≡ 0) × (v ≡ fine t)
+pub unless-fine : (r k : ℕ) (v : Verdict) (t : ℕ) → unlessItem r k v ≡ fine t → (r ≡ 0) × (v ≡ fine t)
 unless-fine zero k v t h = (refl, h)
 unless-fine (suc r) k v t h = absurd (let z : _≡_ {A = ℕ} 0 1 = cc in omega arith)
 

@@ -19,7 +19,7 @@ use Rattle.log_item.specs.Written.{capped, measureItem}
 use Rattle.log_item.proofs.Refusals.{content-allowed}
 use Rattle.log_item.specs.Blank.{blankItem}
 use Rattle.list_measure.specs.Bytes.{itemsBytes, listBytes}
-use Rattle.list_measure.specs.Refusing.{fine, refused, unless, itemsVerdict, listVerdict}
+use Rattle.list_measure.specs.Refusing.{fine, refused, unlessItem, itemsVerdict, listVerdict}
 use Rattle.list_measure.specs.Answers.{measured, measuredOf, measureOf}
 use Rattle.list_measure.proofs.Heads.{head-fine, head-refused}
 use Rattle.list_measure.proofs.Rest.{restBytes, bytes-row, bytes-item, bytes-end, bytes-start, restVerdict, told-row, told-item, told-end, told-start}
@@ -111,7 +111,7 @@ module _ (s : List ℕ) (checked : Bool) (xs : List LogItem) (ns : List ℕ) whe
     none h = omega arith
 
     told-now : (x : LogItem) → tails ≤ 0 → i < length xs → getD xs i blankItem ≡ x
-        → unless (contentRefusal s checked j (length ns) (x .content)) i (restVerdict s xs ns checked (i + 1) j (entriesOf (x .content) .count) t)
+        → unlessItem (contentRefusal s checked j (length ns) (x .content)) i (restVerdict s xs ns checked (i + 1) j (entriesOf (x .content) .count) t)
         ≡ itemsVerdict s checked xs ns 0 0 0
     told-now x z h e =
         sym (rw e at (told-item s xs ns checked i j t h (omega (arith, m .room)))) ∙ sym (ap (λ (n : ℕ). restVerdict s xs ns checked i j n t) (none z))
@@ -134,7 +134,7 @@ module _ (s : List ℕ) (checked : Bool) (xs : List LogItem) (ns : List ℕ) whe
           low = m .low;
           small = omega (arith, m .small, k .1);
           sum = omega (arith, m .sum, k .1, ap length y, length-append (headBytes s x) (restBytes s xs ns (i + 1) j n t));
-          told = sym (ap (λ (r : ℕ). unless r i (restVerdict s xs ns checked (i + 1) j n t)) (k .0)) ∙ told-now x z h e;
+          told = sym (ap (λ (r : ℕ). unlessItem r i (restVerdict s xs ns checked (i + 1) j n t)) (k .0)) ∙ told-now x z h e;
         })
 
     pub item-refused : (x : LogItem) (n : ℕ) {rows : ℕ} → length ns ≡ rows → tails ≤ 0 → i < length xs → getD xs i blankItem ≡ x

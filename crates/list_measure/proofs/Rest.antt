@@ -16,7 +16,7 @@ use Rattle.log_item.specs.Bytes.{headBytes, tailsBytes}
 use Rattle.log_item.specs.Refusing.{contentRefusal}
 use Rattle.log_item.specs.Blank.{blankItem}
 use Rattle.list_measure.specs.Bytes.{itemsBytes}
-use Rattle.list_measure.specs.Refusing.{Verdict, fine, refused, unless, tailsVerdict, itemsVerdict}
+use Rattle.list_measure.specs.Refusing.{Verdict, fine, refused, unlessItem, tailsVerdict, itemsVerdict}
 
 next-length : (ns : List ℕ) (j n : ℕ) → j < length ns → take (suc n) (drop j ns) ≡ getD ns j 0 ∷ take n (drop (j + 1) ns)
 next-length ns j n h = rw (add-one, drop-cons ns j 0)
@@ -82,7 +82,7 @@ module _ (s : List ℕ) (xs : List LogItem) (ns : List ℕ) where
 
     pub told-item : (i j t : ℕ) → i < length xs → j ≤ length ns
         → restVerdict i j 0 t
-        ≡ unless (contentRefusal s checked j (length ns) (getD xs i blankItem .content)) i
+        ≡ unlessItem (contentRefusal s checked j (length ns) (getD xs i blankItem .content)) i
         (restVerdict (i + 1) j (entriesOf (getD xs i blankItem .content) .count) t)
     unfolding restVerdict tailsVerdict itemsVerdict
     told-item i j t h r =
@@ -93,9 +93,9 @@ module _ (s : List ℕ) (xs : List LogItem) (ns : List ℕ) where
         let k : i ≡ i + 1 - 1 = omega arith in
         ap (λ (m : ℕ). itemsVerdict s checked (drop i xs) (drop m ns) m i t) z
         ∙ ap (λ (l : List LogItem). itemsVerdict s checked l (drop j ns) j i t) (next-item xs i h)
-        ∙ ap (λ (m : ℕ). unless (contentRefusal s checked j m (x .content)) i (tailsVerdict (take n (drop j ns)) i t (λ u. itemsVerdict s checked (drop (i + 1) xs) (drop n (drop j ns)) (j + n) (i + 1) u))) q
-        ∙ ap (λ (l : List ℕ). unless (contentRefusal s checked j (length ns) (x .content)) i (tailsVerdict (take n (drop j ns)) i t (λ u. itemsVerdict s checked (drop (i + 1) xs) l (j + n) (i + 1) u))) (drop-drop n j ns)
-        ∙ ap (λ (m : ℕ). unless (contentRefusal s checked j (length ns) (x .content)) i (tailsVerdict (take n (drop j ns)) m t (λ u. itemsVerdict s checked (drop (i + 1) xs) (drop (j + n) ns) (j + n) (i + 1) u))) k
+        ∙ ap (λ (m : ℕ). unlessItem (contentRefusal s checked j m (x .content)) i (tailsVerdict (take n (drop j ns)) i t (λ u. itemsVerdict s checked (drop (i + 1) xs) (drop n (drop j ns)) (j + n) (i + 1) u))) q
+        ∙ ap (λ (l : List ℕ). unlessItem (contentRefusal s checked j (length ns) (x .content)) i (tailsVerdict (take n (drop j ns)) i t (λ u. itemsVerdict s checked (drop (i + 1) xs) l (j + n) (i + 1) u))) (drop-drop n j ns)
+        ∙ ap (λ (m : ℕ). unlessItem (contentRefusal s checked j (length ns) (x .content)) i (tailsVerdict (take n (drop j ns)) m t (λ u. itemsVerdict s checked (drop (i + 1) xs) (drop (j + n) ns) (j + n) (i + 1) u))) k
 
     pub told-end : (i j t : ℕ) → length xs ≤ i → restVerdict i j 0 t ≡ fine t
     unfolding restVerdict tailsVerdict itemsVerdict

@@ -16,9 +16,9 @@ pub data Verdict : Type 0 where
   refused : (number item : ℕ) → Verdict
 
 -- where item k is not refused, what follows it
-abbrev pub unless : ℕ → ℕ → Verdict → Verdict
-unless zero k v = v
-unless (suc r) k v = refused (suc r) k
+abbrev pub unlessItem : ℕ → ℕ → Verdict → Verdict
+unlessItem zero k v = v
+unlessItem (suc r) k v = refused (suc r) k
 
 -- 16 for each tail of item k, the total running on, and what follows them
 unfoldable pub tailsVerdict : List ℕ → ℕ → ℕ → (ℕ → Verdict) → Verdict
@@ -29,7 +29,7 @@ tailsVerdict (n ∷ lengths) k t rest = cond (ltb 4294967295 (t + n)) (refused 1
 unfoldable pub itemsVerdict : List ℕ → Bool → List LogItem → List ℕ → ℕ → ℕ → ℕ → Verdict
 itemsVerdict s checked [] lengths used k t = fine t
 itemsVerdict s checked (x ∷ xs) lengths used k t =
-    unless (contentRefusal s checked used (used + length lengths) (x .content)) k
+    unlessItem (contentRefusal s checked used (used + length lengths) (x .content)) k
     (tailsVerdict (rowLengths x lengths) k t
     (λ u. itemsVerdict s checked xs (drop (entriesOf (x .content) .count) lengths) (used + entriesOf (x .content) .count) (k + 1) u))
 

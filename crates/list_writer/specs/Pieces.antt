@@ -19,12 +19,12 @@ abbrev pub headRefusal : List ℕ → LogItem → ℕ → ℕ → ℕ
 headRefusal s x all at = pieceRefusal (contentInside s (x .content)) at (length (headBytes s x)) all
 
 -- the place after it, or the place itself where it is refused
-abbrev pub unlessRefused : ℕ → ℕ → ℕ → ℕ
-unlessRefused zero at next = next
-unlessRefused (suc r) at next = at
+abbrev pub nextUnless : ℕ → ℕ → ℕ → ℕ
+nextUnless zero at next = next
+nextUnless (suc r) at next = at
 
 unfoldable pub headNext : List ℕ → LogItem → ℕ → ℕ → ℕ
-headNext s x all at = unlessRefused (headRefusal s x all at) at (at + length (headBytes s x))
+headNext s x all at = nextUnless (headRefusal s x all at) at (at + length (headBytes s x))
 
 unfoldable pub headPlaced : List ℕ → LogItem → List ℕ → ℕ → List ℕ
 headPlaced s x out at = itemPlaced (headRefusal s x (length out) at) out at (headBytes s x)

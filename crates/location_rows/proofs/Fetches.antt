@@ -17,7 +17,7 @@ use Rattle.memtable.specs.Fetching.{fetchOf}
 use Rattle.memtable.proofs.Queues.{both}
 use Rattle.memtable.proofs.Surveys.{fetched-by}
 use Rattle.memtable.proofs.Fetches.{fetched-is}
-use Rattle.location_rows.specs.Words.{areRows, rowCount, rowsOf}
+use Rattle.location_rows.specs.Words.{areRows, locationCount, rowsOf}
 use Rattle.location_rows.specs.Answers.{limitedFetch, fetchWords}
 use Rattle.location_rows.specs.Private.{located, formedWords}
 use Rattle.location_rows.proofs.Surveys.{located-length, count-within}
@@ -26,31 +26,31 @@ module _ (words : List ℕ) (t : Table) (gate : ℕ) {b : Bool} (e : b ≡ forme
   -- the table is not well formed: 26
   pub fetch-broken : {r : Fetched} → b ≡ false → r ≡ fetched false t (0 - 0) → r ≡ fetchWords words t gate
   unfolding fetched fetchOf fetchWords formedWords rowsOf limitedFetch
-  fetch-broken f g = g ∙ told (areRows (rowCount words) words) refl
+  fetch-broken f g = g ∙ told (areRows (locationCount words) words) refl
     where
-      told : (a : Bool) → areRows (rowCount words) words ≡ a → fetched false t (0 - 0) ≡ fetchWords words t gate
+      told : (a : Bool) → areRows (locationCount words) words ≡ a → fetched false t (0 - 0) ≡ fetchWords words t gate
       told true h =
           let wrong : wellFormed (located words) t ≡ false = sym (ap (λ (x : Bool). x && wellFormed (located words) t) h) ∙ sym e ∙ f in
           rw (h, wrong) refl
       told false h = rw h refl
 
   module _ (f : b ≡ true) where
-    parts : (areRows (rowCount words) words ≡ true) × (wellFormed (located words) t ≡ true)
+    parts : (areRows (locationCount words) words ≡ true) × (wellFormed (located words) t ≡ true)
     unfolding formedWords
-    parts = both (areRows (rowCount words) words) (wellFormed (located words) t) (sym e ∙ f)
+    parts = both (areRows (locationCount words) words) (wellFormed (located words) t) (sym e ∙ f)
 
-    is-limited : fetchWords words t gate ≡ limitedFetch (rowCount words) (fetchOf (located words) t gate)
+    is-limited : fetchWords words t gate ≡ limitedFetch (locationCount words) (fetchOf (located words) t gate)
     unfolding fetchWords rowsOf
     is-limited = rw (parts .0, located-length words) refl
 
-    pub fetch-many : 64 < rowCount words → noRun 21 ≡ fetchWords words t gate
+    pub fetch-many : 64 < locationCount words → noRun 21 ≡ fetchWords words t gate
     unfolding limitedFetch
-    fetch-many l = sym (is-limited ∙ (rw (fetched-is (located words) t gate (parts .1), lt-leb (rowCount words) 64 l) refl))
+    fetch-many l = sym (is-limited ∙ (rw (fetched-is (located words) t gate (parts .1), lt-leb (locationCount words) 64 l) refl))
 
-    pub fetch-run : {end : ℕ} {r : Fetched} → rowCount words ≤ 64 → end ≡ t .count + runOf (Stop.Above gate) (take (rowCount words - t .count) (drop (t .count) (located words)))
+    pub fetch-run : {end : ℕ} {r : Fetched} → locationCount words ≤ 64 → end ≡ t .count + runOf (Stop.Above gate) (take (locationCount words - t .count) (drop (t .count) (located words)))
         → r ≡ fetched true t (end - t .count) → r ≡ fetchWords words t gate
     unfolding limitedFetch
     fetch-run {end} {r} l e₁ e₂ =
-        let n : length (located words) ≡ rowCount words = located-length words in
+        let n : length (located words) ≡ locationCount words = located-length words in
         fetched-by (located words) t gate true (t .count) end r (sym (parts .1)) (omega (arith, n, count-within words t e f)) (rw n e₁) e₂
-        ∙ sym (is-limited ∙ (rw (fetched-is (located words) t gate (parts .1), le-leb (rowCount words) 64 l) refl))
+        ∙ sym (is-limited ∙ (rw (fetched-is (located words) t gate (parts .1), le-leb (locationCount words) 64 l) refl))

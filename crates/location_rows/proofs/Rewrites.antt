@@ -22,7 +22,7 @@ use Rattle.location_rules.proofs.Overlaps.{over-le, over-rows}
 use Rattle.memtable.proofs.Surveys.{ready-by}
 use Rattle.memtable.proofs.Rewrites.{run-fits, rewritten-by}
 use Rattle.memtable.proofs.Theorems.{refused-kept}
-use Rattle.location_rows.specs.Words.{areRows, rowCount, rows, broken, rowsOf, rowsWords}
+use Rattle.location_rows.specs.Words.{areRows, locationCount, rows, broken, rowsOf, rowsWords}
 use Rattle.location_rows.specs.Answers.{limited, RowsRewritten}
 use Rattle.location_rows.specs.Private.{located, formedWords, readyWords}
 use Rattle.location_rows.proofs.Rows.{room, pasted}
@@ -39,19 +39,19 @@ not-taken : (t : Table) (place overlap run : ℕ) (gate : Gate) → answered tru
 unfolding answered
 not-taken t place overlap run gate = refl
 
-is-formed : (words : List ℕ) (t : Table) → areRows (rowCount words) words ≡ true → formedWords words t ≡ wellFormed (located words) t
+is-formed : (words : List ℕ) (t : Table) → areRows (locationCount words) words ≡ true → formedWords words t ≡ wellFormed (located words) t
 unfolding formedWords
 is-formed words t h = rw h refl
 
-is-taken : (words : List ℕ) (first : ℕ) → areRows (rowCount words) words ≡ true → readyWords words first ≡ ready (located words) first
+is-taken : (words : List ℕ) (first : ℕ) → areRows (locationCount words) words ≡ true → readyWords words first ≡ ready (located words) first
 unfolding readyWords
 is-taken words first h = rw h refl
 
-are-rows : (words : List ℕ) → areRows (rowCount words) words ≡ true → rowsOf words ≡ rows (located words)
+are-rows : (words : List ℕ) → areRows (locationCount words) words ≡ true → rowsOf words ≡ rows (located words)
 unfolding rowsOf
 are-rows words h = rw h refl
 
-no-rows : (words : List ℕ) → areRows (rowCount words) words ≡ false → rowsOf words ≡ broken
+no-rows : (words : List ℕ) → areRows (locationCount words) words ≡ false → rowsOf words ≡ broken
 unfolding rowsOf
 no-rows words h = rw h refl
 
@@ -62,22 +62,22 @@ scan-room place from n m {p} over = (over-le place from n m p over, over-rows pl
 
 -- the facts of the calls, in their order
 module _ (words : List ℕ) (t : Table) (incoming : List ℕ) (first : ℕ) {p : Overlap}
-    (over : p ≡ overlapOf (first - t .first) (t .first - first) (rowCount words) (rowCount incoming)) where
+    (over : p ≡ overlapOf (first - t .first) (t .first - first) (locationCount words) (locationCount incoming)) where
   module _ (gate : Gate) (good isReady : Bool) (s : Stop) {e : ℕ} {d a : Rewritten}
       (ran : e ≡ p .start + runOf s (take (p .end - p .start) (drop (p .start) (located words))))
       (decided : d ≡ answered good isReady t (p .start) (p .end - p .start) (e - p .start) gate)
-      (reply : a ≡ limited (rowCount words) (rowCount incoming) t d) where
+      (reply : a ≡ limited (locationCount words) (locationCount incoming) t d) where
     over-located : p ≡ overlapOf (first - t .first) (t .first - first) (length (located words)) (length (located incoming))
     over-located = rw (located-length words, located-length incoming) over
 
-    fits : (p .start + d .replaced ≤ rowCount words) × (p .from + d .replaced ≤ rowCount incoming)
+    fits : (p .start + d .replaced ≤ locationCount words) × (p .from + d .replaced ≤ locationCount incoming)
     fits =
         let h = run-fits (located words) t (located incoming) first good isReady p s e d gate over-located ran decided in
         (omega (arith, h .0, located-length words), omega (arith, h .1, located-length incoming))
 
     pub replace-room : (p .start * 6 + a .replaced * 6 ≤ length words) × (p .from * 6 + a .replaced * 6 ≤ length incoming)
     replace-room =
-        let k : a .replaced ≤ d .replaced = rw reply (limited-le (rowCount words) (rowCount incoming) t d) in
+        let k : a .replaced ≤ d .replaced = rw reply (limited-le (locationCount words) (locationCount incoming) t d) in
         (omega (arith, k, fits .0, room (length words)), omega (arith, k, fits .1, room (length incoming)))
 
     module _ {later : List ℕ} (formed : good ≡ formedWords words t) (taken : isReady ≡ readyWords incoming first) (stops : s ≡ stopOf gate)
@@ -90,22 +90,22 @@ module _ (words : List ℕ) (t : Table) (incoming : List ℕ) (first : ℕ) {p :
       -- a refusal k
       refused : (k : ℕ) → (k ≡ 0 → ⊥) → d ≡ unchanged k t → (a ≡ unchanged k t) × (later ≡ words)
       refused k f h =
-          let z : a ≡ unchanged k t = reply ∙ limited-refused (rowCount words) (rowCount incoming) t d k f h in
+          let z : a ≡ unchanged k t = reply ∙ limited-refused (locationCount words) (locationCount incoming) t d k f h in
           (z, as-before (ap (λ (w : Rewritten). w .replaced) z))
 
       -- a row of the table is no location's
-      table-broken : areRows (rowCount words) words ≡ false → RowsRewritten words t incoming first gate a later
+      table-broken : areRows (locationCount words) words ≡ false → RowsRewritten words t incoming first gate a later
       table-broken h =
           let g : good ≡ false = formed ∙ sym (unformed words refl h t) in
           let z = refused 26 (λ k. omega arith) (decided ∙ (rw g (not-formed isReady t (p .start) (p .end - p .start) (e - p .start) gate))) in
           record { answer = rw (no-rows words h) (z .0); after = rw (no-rows words h) (z .1) }
 
-      module _ (h : areRows (rowCount words) words ≡ true) where
+      module _ (h : areRows (locationCount words) words ≡ true) where
         good-is : good ≡ wellFormed (located words) t
         good-is = formed ∙ is-formed words t h
 
         -- an incoming row is
-        incoming-broken : areRows (rowCount incoming) incoming ≡ false → RowsRewritten words t incoming first gate a later
+        incoming-broken : areRows (locationCount incoming) incoming ≡ false → RowsRewritten words t incoming first gate a later
         incoming-broken i = told (wellFormed (located words) t) refl
           where
             told : (b : Bool) → wellFormed (located words) t ≡ b → RowsRewritten words t incoming first gate a later
@@ -120,7 +120,7 @@ module _ (words : List ℕ) (t : Table) (incoming : List ℕ) (first : ℕ) {p :
                 record { answer = rw (are-rows words h, no-rows incoming i, j) (z .0); after = rw (are-rows words h, no-rows incoming i) (z .1) }
 
         -- all are
-        module _ (i : areRows (rowCount incoming) incoming ≡ true) where
+        module _ (i : areRows (locationCount incoming) incoming ≡ true) where
           abbrev last : ℕ
           last = 0 + runOf Stop.Append (take (length (located incoming) - 0) (drop 0 (located incoming)))
 
@@ -134,15 +134,15 @@ module _ (words : List ℕ) (t : Table) (incoming : List ℕ) (first : ℕ) {p :
           answer-is = rw (located-length words, located-length incoming, sym (rewrites .0)) reply
 
           after-is : later ≡ cond (inReach (length (located words)) (length (located incoming))) (rowsWords (rowsAfter (located words) t (located incoming) first gate) ++ drop (length (located words) * 6) words) words
-          after-is = rw (located-length words, located-length incoming) (told (inReach (rowCount words) (rowCount incoming)) refl)
+          after-is = rw (located-length words, located-length incoming) (told (inReach (locationCount words) (locationCount incoming)) refl)
             where
-              told : (b : Bool) → inReach (rowCount words) (rowCount incoming) ≡ b → later ≡ cond b (rowsWords (rowsAfter (located words) t (located incoming) first gate) ++ drop (rowCount words * 6) words) words
+              told : (b : Bool) → inReach (locationCount words) (locationCount incoming) ≡ b → later ≡ cond b (rowsWords (rowsAfter (located words) t (located incoming) first gate) ++ drop (locationCount words * 6) words) words
               told true j =
-                  copied ∙ ap (λ (r : Rewritten). paste words (p .start * 6) (drop (p .from * 6) incoming) (r .replaced * 6)) (reply ∙ limited-in (rowCount words) (rowCount incoming) t d j)
-                  ∙ pasted (rowCount words) (rowCount incoming) words incoming (p .start) (p .from) (d .replaced) (room (length words)) (room (length incoming)) h i (fits .0) (fits .1)
-                  ∙ ap (λ (v : List Location). rowsWords v ++ drop (rowCount words * 6) words) (rewrites .1)
+                  copied ∙ ap (λ (r : Rewritten). paste words (p .start * 6) (drop (p .from * 6) incoming) (r .replaced * 6)) (reply ∙ limited-in (locationCount words) (locationCount incoming) t d j)
+                  ∙ pasted (locationCount words) (locationCount incoming) words incoming (p .start) (p .from) (d .replaced) (room (length words)) (room (length incoming)) h i (fits .0) (fits .1)
+                  ∙ ap (λ (v : List Location). rowsWords v ++ drop (locationCount words * 6) words) (rewrites .1)
               told false j =
-                  as-before (ap (λ (r : Rewritten). r .replaced) reply ∙ limited-out (rowCount words) (rowCount incoming) t d j none)
+                  as-before (ap (λ (r : Rewritten). r .replaced) reply ∙ limited-out (locationCount words) (locationCount incoming) t d j none)
                 where
                   none : (d .number ≡ 0 → ⊥) → d .replaced ≡ 0
                   none = rw (rewrites .0) (λ f. refused-kept (located words) t (located incoming) first gate f .0)
@@ -151,9 +151,9 @@ module _ (words : List ℕ) (t : Table) (incoming : List ℕ) (first : ℕ) {p :
           all-located = record { answer = rw (are-rows words h, are-rows incoming i) answer-is; after = rw (are-rows words h, are-rows incoming i) after-is }
 
       pub rewritten : RowsRewritten words t incoming first gate a later
-      rewritten = told (areRows (rowCount words) words) (areRows (rowCount incoming) incoming) refl refl
+      rewritten = told (areRows (locationCount words) words) (areRows (locationCount incoming) incoming) refl refl
         where
-          told : (b c : Bool) → areRows (rowCount words) words ≡ b → areRows (rowCount incoming) incoming ≡ c → RowsRewritten words t incoming first gate a later
+          told : (b c : Bool) → areRows (locationCount words) words ≡ b → areRows (locationCount incoming) incoming ≡ c → RowsRewritten words t incoming first gate a later
           told false c h i = table-broken h
           told true false h i = incoming-broken h i
           told true true h i = all-located h i

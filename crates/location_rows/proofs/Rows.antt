@@ -11,7 +11,7 @@ use lib.Seq.{drop-drop, take-add, paste}
 use borrow.Author.Tests.{leb-true}
 use Rattle.pipe_log.specs.declared.Location.{Location}
 use Rattle.memtable.proofs.Queues.{both}
-use Rattle.location_rows.specs.Words.{queueOf, startsWell, rowOf, areRows, locations, queueWord, rowWords, rowsWords}
+use Rattle.location_rows.specs.Words.{queueOf, startsWell, locationOf, areRows, locations, queueWord, rowWords, rowsWords}
 
 -- the rows that the words make up are all there
 pub room : (n : ℕ) → n / 6 * 6 ≤ n
@@ -35,15 +35,15 @@ less-none n = omega arith
 less-one : (n k : ℕ) → n - k ≡ suc n - suc k
 less-one n k = omega arith
 
-pub location-at : (n i : ℕ) (words : List ℕ) (other : Location) → i < n → getD (locations n words) i other ≡ rowOf (drop (i * 6) words)
+pub location-at : (n i : ℕ) (words : List ℕ) (other : Location) → i < n → getD (locations n words) i other ≡ locationOf (drop (i * 6) words)
 location-at zero i words other l = absurd (not-suc-le-zero l)
 location-at (suc n) zero words other l = refl
-location-at (suc n) (suc i) words other l = location-at n i (drop 6 words) other (le-of-suc-le-suc l) ∙ ap rowOf (past i words)
+location-at (suc n) (suc i) words other l = location-at n i (drop 6 words) other (le-of-suc-le-suc l) ∙ ap locationOf (past i words)
 
 locations-take : (k n : ℕ) (words : List ℕ) → k ≤ n → take k (locations n words) ≡ locations k words
 locations-take zero n words l = refl
 locations-take (suc k) zero words l = absurd (not-suc-le-zero l)
-locations-take (suc k) (suc n) words l = ap (λ (rows : List Location). rowOf words ∷ rows) (locations-take k n (drop 6 words) (le-of-suc-le-suc l))
+locations-take (suc k) (suc n) words l = ap (λ (rows : List Location). locationOf words ∷ rows) (locations-take k n (drop 6 words) (le-of-suc-le-suc l))
 
 locations-drop : (k n : ℕ) (words : List ℕ) → k ≤ n → drop k (locations n words) ≡ locations (n - k) (drop (k * 6) words)
 locations-drop zero n words l = ap (λ (m : ℕ). locations m words) (less-none n)
@@ -82,7 +82,7 @@ queue-back zero l = refl
 queue-back (suc zero) l = refl
 queue-back (suc (suc q)) l = absurd (omega arith)
 
-row-back : (words : List ℕ) → 6 ≤ length words → startsWell words ≡ true → rowWords (rowOf words) ≡ take 6 words
+row-back : (words : List ℕ) → 6 ≤ length words → startsWell words ≡ true → rowWords (locationOf words) ≡ take 6 words
 row-back words l e =
     rw (queue-back (getD words 0 0) (leb-true (getD words 0 0) 1 e))
     (sym (six words l))
@@ -91,7 +91,7 @@ pub rows-back : (n : ℕ) (words : List ℕ) → n * 6 ≤ length words → areR
 rows-back zero words l e = refl
 rows-back (suc n) words l e =
     let h = both (startsWell words) (areRows n (drop 6 words)) e in
-    let first : rowWords (rowOf words) ≡ take 6 words = row-back words (omega arith) (h .0) in
+    let first : rowWords (locationOf words) ≡ take 6 words = row-back words (omega arith) (h .0) in
     let more : rowsWords (locations n (drop 6 words)) ≡ take (n * 6) (drop 6 words) = rows-back n (drop 6 words) (omega (arith, length-drop 6 words)) (h .1) in
     let sum : suc n * 6 ≡ 6 + n * 6 = omega arith in
     ap (λ (v : List ℕ). v ++ rowsWords (locations n (drop 6 words))) first ∙ ap (λ (v : List ℕ). take 6 words ++ v) more ∙ sym (take-add 6 (n * 6) words)

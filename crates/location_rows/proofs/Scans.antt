@@ -16,7 +16,7 @@ use Rattle.location_rules.specs.declared.Stop.{Stop}
 use Rattle.location_rules.specs.Row.{stopsAt}
 use Rattle.memtable.specs.Rows.{runOf}
 use Rattle.memtable.proofs.Runs.{noRow, run-none, stopped, goes-on}
-use Rattle.location_rows.specs.Words.{queueOf, rowOf, areRows, rowCount}
+use Rattle.location_rows.specs.Words.{queueOf, locationOf, areRows, locationCount}
 use Rattle.location_rows.specs.Private.{rowStart, located}
 use Rattle.location_rows.proofs.Rows.{less-none, locations-length, location-at}
 
@@ -93,15 +93,15 @@ module _ {words : List ℕ} {stop : Stop} {lo hi i : ℕ} (w : Scanned words sto
       same : i ≡ hi
       same = omega (arith, w .within)
 
-  module _ (l : i < hi) (h : hi ≤ rowCount words) {b : Bool} (e : b ≡ stopsAt stop (rowStart (getD words (i * 6) 0) (getD words (i * 6 + 1) 0))) where
+  module _ (l : i < hi) (h : hi ≤ locationCount words) {b : Bool} (e : b ≡ stopsAt stop (rowStart (getD words (i * 6) 0) (getD words (i * 6 + 1) 0))) where
     row : stopsAt stop (getD (located words) i noRow) ≡ b
     row =
-        ap (stopsAt stop) (location-at (rowCount words) i words noRow (omega arith))
-        ∙ stops-same stop (getD words (i * 6) 0) (getD words (i * 6 + 1) 0) (rowOf (drop (i * 6) words)) (ap queueOf (at-start words (i * 6))) (getD-drop (i * 6) words 1 0)
+        ap (stopsAt stop) (location-at (locationCount words) i words noRow (omega arith))
+        ∙ stops-same stop (getD words (i * 6) 0) (getD words (i * 6 + 1) 0) (locationOf (drop (i * 6) words)) (ap queueOf (at-start words (i * 6))) (getD-drop (i * 6) words 1 0)
         ∙ sym e
 
     in-rows : hi ≤ length (located words)
-    in-rows = omega (arith, h, locations-length (rowCount words) words)
+    in-rows = omega (arith, h, locations-length (locationCount words) words)
 
     pub scanned-stop : b ≡ true → i ≡ lo + runOf stop (take (hi - lo) (drop lo (located words)))
     scanned-stop f = sym (stopped stop (located words) hi _ i l in-rows (w .run) (row ∙ f))

@@ -14,14 +14,14 @@ use Rattle.memtable.specs.Table.{wellFormed}
 use Rattle.location_rules.specs.Parts.{wellFormedBy, readyBy}
 use Rattle.memtable.proofs.Queues.{both}
 use Rattle.memtable.proofs.Surveys.{formed-count, formed-by, ready-by}
-use Rattle.location_rows.specs.Words.{areRows, rowCount}
+use Rattle.location_rows.specs.Words.{areRows, locationCount}
 use Rattle.location_rows.specs.Private.{located, formedWords, readyWords}
 use Rattle.location_rows.proofs.Rows.{locations-length}
 
-pub located-length : (words : List ℕ) → length (located words) ≡ rowCount words
-located-length words = locations-length (rowCount words) words
+pub located-length : (words : List ℕ) → length (located words) ≡ locationCount words
+located-length words = locations-length (locationCount words) words
 
-module _ (words : List ℕ) {b : Bool} (e : b ≡ areRows (rowCount words) words) where
+module _ (words : List ℕ) {b : Bool} (e : b ≡ areRows (locationCount words) words) where
   module _ (f : b ≡ false) where
     pub unformed : (t : Table) → false ≡ formedWords words t
     unfolding formedWords
@@ -32,27 +32,27 @@ module _ (words : List ℕ) {b : Bool} (e : b ≡ areRows (rowCount words) words
     unready first = rw (sym e ∙ f) refl
 
   module _ (f : b ≡ true) where
-    pub beyond : (t : Table) → rowCount words < t .count → false ≡ formedWords words t
+    pub beyond : (t : Table) → locationCount words < t .count → false ≡ formedWords words t
     unfolding formedWords wellFormed
     beyond t l = rw (sym e ∙ f, lt-leb (t .count) (length (located words)) (omega (arith, l, located-length words))) refl
 
-    pub formed : (t : Table) {front back : ℕ} {r : Bool} → t .count ≤ rowCount words → front ≡ 0 + runOf Stop.Append (take (t .count - 0) (drop 0 (located words)))
-        → back ≡ t .count + runOf Stop.Rewrite (take (rowCount words - t .count) (drop (t .count) (located words))) → r ≡ wellFormedBy t (rowCount words) front back
+    pub formed : (t : Table) {front back : ℕ} {r : Bool} → t .count ≤ locationCount words → front ≡ 0 + runOf Stop.Append (take (t .count - 0) (drop 0 (located words)))
+        → back ≡ t .count + runOf Stop.Rewrite (take (locationCount words - t .count) (drop (t .count) (located words))) → r ≡ wellFormedBy t (locationCount words) front back
         → r ≡ formedWords words t
     unfolding formedWords
     formed t {front} {back} {r} l e₁ e₂ e₃ =
-        let n : length (located words) ≡ rowCount words = located-length words in
+        let n : length (located words) ≡ locationCount words = located-length words in
         formed-by (located words) t (t .count) front back r (omega (arith, l, n)) e₁ (rw n e₂) (rw n e₃) ∙ (rw (sym e ∙ f) refl)
 
-    pub taken : (first : ℕ) {last : ℕ} {r : Bool} → last ≡ 0 + runOf Stop.Append (take (rowCount words - 0) (drop 0 (located words))) → r ≡ readyBy last (rowCount words) first
+    pub taken : (first : ℕ) {last : ℕ} {r : Bool} → last ≡ 0 + runOf Stop.Append (take (locationCount words - 0) (drop 0 (located words))) → r ≡ readyBy last (locationCount words) first
         → r ≡ readyWords words first
     unfolding readyWords
     taken first {last} {r} e₁ e₂ =
-        let n : length (located words) ≡ rowCount words = located-length words in
+        let n : length (located words) ≡ locationCount words = located-length words in
         ready-by (located words) first last r (rw n e₁) (rw n e₂) ∙ (rw (sym e ∙ f) refl)
 
 -- the rewritten count is within the rows
-pub count-within : (words : List ℕ) (t : Table) {b : Bool} → b ≡ formedWords words t → b ≡ true → t .count ≤ rowCount words
+pub count-within : (words : List ℕ) (t : Table) {b : Bool} → b ≡ formedWords words t → b ≡ true → t .count ≤ locationCount words
 unfolding formedWords
 count-within words t e f =
-    omega (arith, formed-count (located words) t (both (areRows (rowCount words) words) (wellFormed (located words) t) (sym e ∙ f) .1), located-length words)
+    omega (arith, formed-count (located words) t (both (areRows (locationCount words) words) (wellFormed (located words) t) (sym e ∙ f) .1), located-length words)

@@ -17,7 +17,7 @@ use Rattle.memtable.specs.Table.{wellFormed}
 use Rattle.location_rules.specs.Decisions.{unchanged}
 use Rattle.memtable.specs.Rewriting.{rewriteOf, rowsAfter}
 use Rattle.memtable.proofs.Theorems.{refused-kept}
-use Rattle.location_rows.specs.Words.{startsWell, rowOf, areRows, rowCount, Rows, rows, broken, rowsOf, queueOf, queueWord, rowWords, rowsWords}
+use Rattle.location_rows.specs.Words.{startsWell, locationOf, areRows, locationCount, Rows, rows, broken, rowsOf, queueOf, queueWord, rowWords, rowsWords}
 use Rattle.location_rules.specs.Parts.{inReach}
 use Rattle.location_rows.specs.Answers.{limited, rewriteRows, rowsAfterwards, Kept}
 use Rattle.location_rows.specs.Private.{located}
@@ -30,7 +30,7 @@ queue-again LogQueue.Append = (refl, refl)
 queue-again LogQueue.Rewrite = (refl, refl)
 
 -- A location's words are a row, and the row is that location.
-pub row-again : (x : Location) → (startsWell (rowWords x) ≡ true) × (rowOf (rowWords x) ≡ x)
+pub row-again : (x : Location) → (startsWell (rowWords x) ≡ true) × (locationOf (rowWords x) ≡ x)
 row-again x = (
   queue-again (x .queue) .0,
   ap
@@ -40,15 +40,15 @@ row-again x = (
 )
 
 -- The words of the rows, and then what does not make up a row, are the words.
-pub words-again : (words : List ℕ) → areRows (rowCount words) words ≡ true → rowsWords (located words) ++ drop (rowCount words * 6) words ≡ words
+pub words-again : (words : List ℕ) → areRows (locationCount words) words ≡ true → rowsWords (located words) ++ drop (locationCount words * 6) words ≡ words
 words-again words h =
-    ap (λ (v : List ℕ). v ++ drop (rowCount words * 6) words) (rows-back (rowCount words) words (room (length words)) h) ∙ take-append-drop (rowCount words * 6) words
+    ap (λ (v : List ℕ). v ++ drop (locationCount words * 6) words) (rows-back (locationCount words) words (room (length words)) h) ∙ take-append-drop (locationCount words * 6) words
 
 located-rows : (words : List ℕ) (xs : List Location) → rowsOf words ≡ rows xs → rowsWords xs ++ drop (length xs * 6) words ≡ words
 unfolding rowsOf
-located-rows words xs e = told (areRows (rowCount words) words) refl e
+located-rows words xs e = told (areRows (locationCount words) words) refl e
   where
-    told : (b : Bool) → areRows (rowCount words) words ≡ b → cond b (rows (located words)) broken ≡ rows xs → rowsWords xs ++ drop (length xs * 6) words ≡ words
+    told : (b : Bool) → areRows (locationCount words) words ≡ b → cond b (rows (located words)) broken ≡ rows xs → rowsWords xs ++ drop (length xs * 6) words ≡ words
     told true h f =
         let same : xs ≡ located words = cc in
         rw (same, located-length words) (words-again words h)

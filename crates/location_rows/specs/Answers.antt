@@ -17,8 +17,8 @@ use Rattle.memtable.specs.Rewriting.{rewriteOf, rowsAfter}
 use Rattle.memtable.specs.Fetching.{fetchOf}
 use Rattle.location_rows.specs.Words.{Rows, rows, broken, rowsOf, rowsWords}
 
-abbrev pub tableOf : ℕ → ℕ → Table
-tableOf first count = record { first = first; count = count }
+abbrev pub tableFrom : ℕ → ℕ → Table
+tableFrom first count = record { first = first; count = count }
 
 -- an answer that refuses nothing is a 21 where there are more than 64 rows: it comes after every other check
 unfoldable pub limited : ℕ → ℕ → Table → Rewritten → Rewritten

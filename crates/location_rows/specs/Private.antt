@@ -6,7 +6,7 @@ use mathlib.Core.List.{List}
 use Rattle.pipe_log.specs.declared.Location.{Location}
 use Rattle.location_rules.specs.declared.Table.{Table}
 use Rattle.memtable.specs.Table.{wellFormed, ready}
-use Rattle.location_rows.specs.Words.{queueOf, rowCount, areRows, locations}
+use Rattle.location_rows.specs.Words.{queueOf, locationCount, areRows, locations}
 
 -- a row as far as a stop looks at it
 abbrev pub rowStart : ℕ → ℕ → Location
@@ -14,12 +14,12 @@ rowStart queue seq = record { queue = queueOf queue; seq = seq; offset = 0; len 
 
 -- the locations that the words are
 abbrev pub located : List ℕ → List Location
-located words = locations (rowCount words) words
+located words = locations (locationCount words) words
 
 -- each row is a location's, and the table is well formed
 unfoldable pub formedWords : List ℕ → Table → Bool
-formedWords words t = areRows (rowCount words) words && wellFormed (located words) t
+formedWords words t = areRows (locationCount words) words && wellFormed (located words) t
 
 -- each row is a location's, and the rows are taken
 unfoldable pub readyWords : List ℕ → ℕ → Bool
-readyWords words first = areRows (rowCount words) words && ready (located words) first
+readyWords words first = areRows (locationCount words) words && ready (located words) first

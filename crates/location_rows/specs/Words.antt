@@ -19,8 +19,8 @@ queueOf (suc q) = LogQueue.Rewrite
 abbrev pub startsWell : List ℕ → Bool
 startsWell words = leb (getD words 0 0) 1
 
-abbrev pub rowOf : List ℕ → Location
-rowOf words =
+abbrev pub locationOf : List ℕ → Location
+locationOf words =
     record {
       queue = queueOf (getD words 0 0);
       seq = getD words 1 0;
@@ -37,11 +37,11 @@ areRows (suc n) words = startsWell words && areRows n (drop 6 words)
 
 abbrev pub locations : ℕ → List ℕ → List Location
 locations zero words = []
-locations (suc n) words = rowOf words ∷ locations n (drop 6 words)
+locations (suc n) words = locationOf words ∷ locations n (drop 6 words)
 
 -- how many rows the words make up; what is left over is not looked at
-abbrev pub rowCount : List ℕ → ℕ
-rowCount words = length words / 6
+abbrev pub locationCount : List ℕ → ℕ
+locationCount words = length words / 6
 
 pub data Rows : Type 0 where
   rows : List Location → Rows
@@ -49,7 +49,7 @@ pub data Rows : Type 0 where
 
 -- the rows, or one of them is no location's
 unfoldable pub rowsOf : List ℕ → Rows
-rowsOf words = cond (areRows (rowCount words) words) (rows (locations (rowCount words) words)) broken
+rowsOf words = cond (areRows (locationCount words) words) (rows (locations (locationCount words) words)) broken
 
 -- ---- from locations to words
 

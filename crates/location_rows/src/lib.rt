@@ -6,8 +6,8 @@ ghost use lib.ListN.{length, take, drop};
 ghost use lib.Seq.{paste};
 ghost use Rattle.location_rules.specs.Row.{stopsAt};
 ghost use Rattle.memtable.specs.Rows.{runOf};
-ghost use Rattle.location_rows.specs.Words.{rowCount, queueOf, areRows};
-ghost use Rattle.location_rows.specs.Answers.{tableOf, limited, RowsRewritten, fetchWords};
+ghost use Rattle.location_rows.specs.Words.{locationCount, queueOf, areRows};
+ghost use Rattle.location_rows.specs.Answers.{tableFrom, limited, RowsRewritten, fetchWords};
 ghost use Rattle.location_rows.specs.Private.{rowStart, located, formedWords, readyWords};
 use location_rules::Fetched;
 use location_rules::Gate;
@@ -27,7 +27,7 @@ pub fn rewrite(
     incoming_first: u64,
     gate: Gate,
 ) -> Rewritten
-    ensures { λ r. ⌜ RowsRewritten (now (table .entry)) (tableOf «first_index» rewritten) (now (incoming .entry)) «incoming_first» gate r (now (table .exit)) ⌝ }
+    ensures { λ r. ⌜ RowsRewritten (now (table .entry)) (tableFrom «first_index» rewritten) (now (incoming .entry)) «incoming_first» gate r (now (table .exit)) ⌝ }
 {
     let t = Table {
         first: first_index,
@@ -54,7 +54,7 @@ pub fn rewrite(
 
 // The longest run of rows from the rewritten count on with file number at most the gate. More than 64 rows: 21, after 26.
 pub fn fetch(table: &[u64], first_index: u64, rewritten: u64, gate: u64) -> Fetched
-    ensures { λ r. ⌜ r ≡ fetchWords (now (table .entry)) (tableOf «first_index» rewritten) gate ⌝ }
+    ensures { λ r. ⌜ r ≡ fetchWords (now (table .entry)) (tableFrom «first_index» rewritten) gate ⌝ }
 {
     let t = Table {
         first: first_index,
@@ -107,7 +107,7 @@ fn is_ready(words: &[u64], first: u64) -> bool
 
 // Whether each row is a location's.
 fn are_rows(words: &[u64]) -> bool
-    ensures { λ r. ⌜ r ≡ areRows (rowCount (now (words .entry))) (now (words .entry)) ⌝ }
+    ensures { λ r. ⌜ r ≡ areRows (locationCount (now (words .entry))) (now (words .entry)) ⌝ }
 {
     let n = words.len() / 6;
     let mut i: usize = 0;
@@ -122,7 +122,7 @@ fn are_rows(words: &[u64]) -> bool
 
 // Where the first row that stops the run stands, from lo on and before hi, or hi.
 fn scan(words: &[u64], lo: usize, hi: usize, stop: Stop) -> usize
-    requires { ⌜ (lo ≤ hi) × (hi ≤ rowCount (now words)) ⌝ }
+    requires { ⌜ (lo ≤ hi) × (hi ≤ locationCount (now words)) ⌝ }
     ensures { λ r. ⌜ r ≡ lo + runOf stop (take (hi - lo) (drop lo (located (now (words .entry))))) ⌝ }
 {
     let mut i: usize = lo;

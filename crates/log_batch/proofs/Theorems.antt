@@ -42,7 +42,7 @@ use Rattle.body_check.specs.Answers.{checkOf, yesNo, plainBody}
 use Rattle.body_check.proofs.Refusing.{refusal-some}
 use Rattle.item_batch.specs.declared.LogItemBatch.{LogItemBatch}
 use Rattle.item_batch.specs.Table.{tableOf, emptyTable}
-use Rattle.item_batch.specs.Writing.{listed, rowLengths, BodyWritten, bodyItems, bodyRows, keysAndContents, AllSmall}
+use Rattle.item_batch.specs.Writing.{listed, tableLengths, BodyWritten, bodyItems, bodyRows, keysAndContents, AllSmall}
 use Rattle.log_item.specs.Spelling.{NumberIn}
 use Rattle.one_reading.specs.Spelling.{Spells, list}
 use Rattle.one_reading.specs.Acceptable.{Acceptable, Begins}
@@ -259,25 +259,25 @@ past-ignored a t signature e whole = past-same a t signature e whole
 -- What is written of a table is spelled, with shortest numbers, by its list with its places worked out.
 module _ (checked : Bool) (t : LogItemBatch) (s : List ℕ) (signature : ℕ) (out : List ℕ) {r : Encoded} {later : List ℕ} (small : AllSmall (t .items))
     (w : BodyWritten checked t s signature out r later) (z : r .number ≡ 0) where
-  pub body-spelled : (total : ℕ) × (take (r .length) later ≡ bodyBytes s (listed t) (rowLengths t) signature)
-      × Spells (NumberIn Plain) (bodyItems s (listed t) (rowLengths t)) (bodyRows (listed t) (rowLengths t)) total (listBytes s (listed t) (rowLengths t))
+  pub body-spelled : (total : ℕ) × (take (r .length) later ≡ bodyBytes s (listed t) (tableLengths t) signature)
+      × Spells (NumberIn Plain) (bodyItems s (listed t) (tableLengths t)) (bodyRows (listed t) (tableLengths t)) total (listBytes s (listed t) (tableLengths t))
   body-spelled =
       let b = buffer-written checked t s signature out w z in
-      (b .0, b .1, written-spelled s checked (listed t) (rowLengths t) (b .0) (table-small t small) (b .2) .0)
+      (b .0, b .1, written-spelled s checked (listed t) (tableLengths t) (b .0) (table-small t small) (b .2) .0)
 
   module _ (bytes : Bytes s) (key : signature < 2 ^ 32) where
     -- Reading a written body under the same signature gives that list and the same key and content bytes.
     pub body-read-back : (total : ℕ)
         × (readBody (take (r .length) later) signature
-        ≡ accepted (bodyItems s (listed t) (rowLengths t)) (bodyRows (listed t) (rowLengths t)) total (length (listBytes s (listed t) (rowLengths t))))
-        × (keysAndContents (take (r .length) later) (bodyItems s (listed t) (rowLengths t)) ≡ keysAndContents s (listed t))
+        ≡ accepted (bodyItems s (listed t) (tableLengths t)) (bodyRows (listed t) (tableLengths t)) total (length (listBytes s (listed t) (tableLengths t))))
+        × (keysAndContents (take (r .length) later) (bodyItems s (listed t) (tableLengths t)) ≡ keysAndContents s (listed t))
     body-read-back = buffer-read-back checked t s signature out small bytes key w z
 
     -- A written body, read under a second signature, is refused with 6 exactly when the two signatures, none being 0, differ.
     pub second-signature : (b : ℕ) → (readBody (take (r .length) later) b ≡ rejected 6 0) ↔ (signature ≡ b → ⊥)
     second-signature b =
         let k = buffer-written checked t s signature out w z in
-        rw (k .1) (other-signature s checked (listed t) (rowLengths t) (k .0) (table-small t small) (k .2) bytes signature b key)
+        rw (k .1) (other-signature s checked (listed t) (tableLengths t) (k .0) (table-small t small) (k .2) bytes signature b key)
 
 -- ---- whole batches written
 
@@ -343,9 +343,9 @@ module _ {checked : Bool} {xs : List LogItem} {ns s content : List ℕ} {signatu
 pub refused-body-kept : {checked : Bool} {t : LogItemBatch} {s : List ℕ} {signature : ℕ} {out : List ℕ} {r : Encoded} {later : List ℕ}
     → BodyWritten checked t s signature out r later → (r .number ≡ 0 → ⊥) → later ≡ out
 refused-body-kept {checked} {t} {s} {signature} {out} {r} {later} w h =
-    go (encodes s checked (listed t) (rowLengths t) signature out 0 (w .answer) (w .written))
+    go (encodes s checked (listed t) (tableLengths t) signature out 0 (w .answer) (w .written))
   where
-    go : Encodes s checked (listed t) (rowLengths t) signature out 0 r later → later ≡ out
+    go : Encodes s checked (listed t) (tableLengths t) signature out 0 r later → later ≡ out
     go (writes z some b) = absurd (h z)
     go (leaves some z same) = same
 
@@ -381,8 +381,8 @@ pub no-items : {checked : Bool} {t : LogItemBatch} {s : List ℕ} {signature : �
 unfolding itemsOf encodedOf laid
 no-items {checked} {t} {s} {signature} {out} {r} w z room =
     let none : listed t ≡ [] = ap (itemsOf (t .items)) z in
-    let answer : r ≡ encoded 0 0 5 = w .answer ∙ (rw (none, none-measured s (rowLengths t) checked, le-leb 5 (length out) room)) in
-    (answer, w .written ∙ (rw (answer, none, none-bytes s (rowLengths t) signature, length-little, le-leb 5 (length out) room)))
+    let answer : r ≡ encoded 0 0 5 = w .answer ∙ (rw (none, none-measured s (tableLengths t) checked, le-leb 5 (length out) room)) in
+    (answer, w .written ∙ (rw (answer, none, none-bytes s (tableLengths t) signature, length-little, le-leb 5 (length out) room)))
 
 -- The whole-batch writer given no items and no content writes nothing and answers length 0. No items with content is 20.
 module _ (s ns : List ℕ) (checked : Bool) (room : ℕ) where

@@ -15,7 +15,7 @@ ghost use mathlib.Core.Bool.{true, false};
 ghost use Rattle.log_batch.specs.Header.{frame, header, headerGot};
 ghost use Rattle.log_batch.specs.Batch.{frontBatch, sealedBatch, readBatch};
 ghost use Rattle.log_batch.specs.Written.{BatchWritten};
-ghost use Rattle.item_batch.specs.Writing.{listed, rowLengths};
+ghost use Rattle.item_batch.specs.Writing.{listed, tableLengths};
 use codec::U64Read;
 use list_writer::Encoded;
 use log_item::Span;
@@ -127,7 +127,7 @@ impl LogBatch {
         signature: u32,
         out: &mut [u8],
     ) -> Encoded
-        ensures { λ r. ⌜ BatchWritten true (listed table) (rowLengths table) (now (store .entry)) (now (content .entry)) signature (now (out .entry)) r (now (out .exit)) ⌝ }
+        ensures { λ r. ⌜ BatchWritten true (listed table) (tableLengths table) (now (store .entry)) (now (content .entry)) signature (now (out .entry)) r (now (out .exit)) ⌝ }
     {
         let items = table.items;
         let count = table.item_count;
@@ -151,7 +151,7 @@ impl LogBatch {
         signature: u32,
         out: &mut [u8],
     ) -> Encoded
-        ensures { λ r. ⌜ BatchWritten false (listed table) (rowLengths table) (now (store .entry)) (now (content .entry)) signature (now (out .entry)) r (now (out .exit)) ⌝ }
+        ensures { λ r. ⌜ BatchWritten false (listed table) (tableLengths table) (now (store .entry)) (now (content .entry)) signature (now (out .entry)) r (now (out .exit)) ⌝ }
     {
         let items = table.items;
         let count = table.item_count;

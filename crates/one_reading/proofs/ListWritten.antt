@@ -19,7 +19,7 @@ use Rattle.list_measure.specs.declared.Measured.{Measured}
 use Rattle.list_writer.specs.declared.Encoded.{Encoded}
 use Rattle.list_measure.specs.Bytes.{itemsBytes, listBytes}
 use Rattle.list_writer.specs.Bytes.{bodyBytes}
-use Rattle.list_measure.specs.Refusing.{Verdict, fine, refused, unless, tailsVerdict, itemsVerdict, listVerdict}
+use Rattle.list_measure.specs.Refusing.{Verdict, fine, refused, unlessItem, tailsVerdict, itemsVerdict, listVerdict}
 use Rattle.list_measure.specs.Answers.{measured, measuredOf, measureOf}
 use Rattle.list_writer.specs.Answers.{encoded, encodedOf, laid}
 use Rattle.list_measure.proofs.Heads.{unless-fine, cond-fine}
@@ -84,7 +84,7 @@ items-number s checked (x ∷ xs) ns used k t n i e =
     go (contentRefusal s checked used (used + length ns) (x .content)) _
     (λ h. tails-number (take c ns) k t _ n i (λ u g. items-number s checked xs (drop c ns) (used + c) (k + 1) u n i g) h) e
   where
-    go : (r : ℕ) (v : Verdict) → (v ≡ refused n i → 0 < n) → unless r k v ≡ refused n i → 0 < n
+    go : (r : ℕ) (v : Verdict) → (v ≡ refused n i → 0 < n) → unlessItem r k v ≡ refused n i → 0 < n
     go zero v f h = f h
     go (suc r) v f h = let q : suc r ≡ n = cc in omega arith
 

@@ -248,16 +248,16 @@ table-small t z = go (t .«item_count») (t .items) z
 module _ (checked : Bool) (t : LogItemBatch) (s : List ℕ) (signature : ℕ) (out : List ℕ) {r : Encoded} {later : List ℕ} where
   -- What a writing that is not refused left in the buffer is a written body.
   pub buffer-written : BodyWritten checked t s signature out r later → r .number ≡ 0
-      → (total : ℕ) × (take (r .length) later ≡ bodyBytes s (listed t) (table.rowLengths t) signature)
-      × (listVerdict s checked (listed t) (table.rowLengths t) ≡ fine total)
+      → (total : ℕ) × (take (r .length) later ≡ bodyBytes s (listed t) (table.tableLengths t) signature)
+      × (listVerdict s checked (listed t) (table.tableLengths t) ≡ fine total)
   unfolding listVerdict
-  buffer-written w z = go (encodes s checked (listed t) (table.rowLengths t) signature out 0 (w .answer) (w .written))
+  buffer-written w z = go (encodes s checked (listed t) (table.tableLengths t) signature out 0 (w .answer) (w .written))
     where
-      go : Encodes s checked (listed t) (table.rowLengths t) signature out 0 r later
-          → (total : ℕ) × (take (r .length) later ≡ bodyBytes s (listed t) (table.rowLengths t) signature)
-          × (listVerdict s checked (listed t) (table.rowLengths t) ≡ fine total)
+      go : Encodes s checked (listed t) (table.tableLengths t) signature out 0 r later
+          → (total : ℕ) × (take (r .length) later ≡ bodyBytes s (listed t) (table.tableLengths t) signature)
+          × (listVerdict s checked (listed t) (table.tableLengths t) ≡ fine total)
       go (writes a b f) =
-          let front = take-at (bodyBytes s (listed t) (table.rowLengths t) signature) _ (r .length) (sym (f .whole)) in
+          let front = take-at (bodyBytes s (listed t) (table.tableLengths t) signature) _ (r .length) (sym (f .whole)) in
           (f .total, ap (take (r .length)) (f .bytes) ∙ front, (rw (le-ltb 256 (length (listed t)) (f .few)) (f .told)))
       go (leaves a b c) = absurd (omega arith)
 
@@ -265,10 +265,10 @@ module _ (checked : Bool) (t : LogItemBatch) (s : List ℕ) (signature : ℕ) (o
   pub buffer-read-back : AllSmall (t .items) → Bytes s → signature < 2 ^ 32 → BodyWritten checked t s signature out r later → r .number ≡ 0
       → (total : ℕ)
       × (readBody (take (r .length) later) signature
-      ≡ accepted (bodyItems s (listed t) (table.rowLengths t)) (bodyRows (listed t) (table.rowLengths t)) total (length (listBytes s (listed t) (table.rowLengths t))))
-      × (keysAndContents (take (r .length) later) (bodyItems s (listed t) (table.rowLengths t)) ≡ keysAndContents s (listed t))
+      ≡ accepted (bodyItems s (listed t) (table.tableLengths t)) (bodyRows (listed t) (table.tableLengths t)) total (length (listBytes s (listed t) (table.tableLengths t))))
+      × (keysAndContents (take (r .length) later) (bodyItems s (listed t) (table.tableLengths t)) ≡ keysAndContents s (listed t))
   buffer-read-back z bytes small w e =
       let b = buffer-written w e in
-      let read = read-back s checked (listed t) (table.rowLengths t) (b .0) (table-small t z) (b .2) bytes signature small in
-      let kept = written-kept s checked (listed t) (table.rowLengths t) (b .0) (table-small t z) (b .2) signature in
+      let read = read-back s checked (listed t) (table.tableLengths t) (b .0) (table-small t z) (b .2) bytes signature small in
+      let kept = written-kept s checked (listed t) (table.tableLengths t) (b .0) (table-small t z) (b .2) signature in
       (b .0, rw (b .1) read, rw (b .1) kept)

@@ -6,9 +6,9 @@ use mathlib.Core.List.{List, [], _∷_}
 use borrow.Author.Tests.{ne-eqb}
 use lib.ListN.{getD}
 use Rattle.log_item.specs.declared.LogItem.{LogItem}
-use Rattle.item_row.specs.declared.RowRead.{RowRead}
-use Rattle.item_row.specs.declared.RowRead.the-variants.{Item, Refused}
-use Rattle.item_row.specs.Row.{rowItem, rowAt}
+use Rattle.item_row.specs.declared.ItemRowRead.{ItemRowRead}
+use Rattle.item_row.specs.declared.ItemRowRead.the-variants.{Item, Refused}
+use Rattle.item_row.specs.Row.{rowItem, itemOfRow}
 use Rattle.atomic_status.specs.declared.AtomicGroupStatus.{AtomicGroupStatus}
 use Rattle.atomic_status.specs.declared.StatusRead.{StatusRead}
 use Rattle.atomic_status.specs.declared.StatusRead.the-variants.{Mark}
@@ -59,17 +59,17 @@ module _ (row append rewrite : List ℕ) {n : ℕ}
 
 -- ---- an item row
 
-module _ (row store : List ℕ) {r : RowRead}
+module _ (row store : List ℕ) {r : ItemRowRead}
     (e : r ≡ rowItem (getD row 0 0) (getD row 1 0) (getD row 2 0) (getD row 3 0) (getD row 4 0) (getD row 5 0) (getD row 6 0)) where
-  first-row : r ≡ rowAt row 0
-  unfolding rowAt
+  first-row : r ≡ itemOfRow row 0
+  unfolding itemOfRow
   first-row = e
 
-  pub row-refused : {n : ℕ} → r ≡ Refused n → reply n (0 ∷ 0 ∷ []) ≡ rowStatus (rowAt row 0) store
+  pub row-refused : {n : ℕ} → r ≡ Refused n → reply n (0 ∷ 0 ∷ []) ≡ rowStatus (itemOfRow row 0) store
   unfolding rowStatus
   row-refused h = rw (sym first-row ∙ h)
 
   pub row-marked : {x : LogItem} {a : Reply} {s : StatusRead} → r ≡ Item x → s ≡ statusOf x (x .content) store → a ≡ statusReply s
-      → a ≡ rowStatus (rowAt row 0) store
+      → a ≡ rowStatus (itemOfRow row 0) store
   unfolding rowStatus
   row-marked h k f = rw (sym first-row ∙ h) (f ∙ ap statusReply k)

@@ -8,8 +8,8 @@ use lib.ListN.{getD}
 use Rattle.words.specs.declared.Wrote.{Wrote}
 use Rattle.words.specs.declared.Wrote.the-variants as wrote
 use Rattle.field.specs.Got.{Got, got, refused}
-use Rattle.item_row.specs.declared.RowRead.{RowRead}
-use Rattle.item_row.specs.declared.RowRead.the-variants as row
+use Rattle.item_row.specs.declared.ItemRowRead.{ItemRowRead}
+use Rattle.item_row.specs.declared.ItemRowRead.the-variants as row
 use Rattle.body_check.specs.declared.BodyCheck.{BodyCheck}
 use Rattle.body_check.specs.declared.BodyCheck.the-variants as check
 use Rattle.body_check.specs.declared.PlainForm.{PlainForm}
@@ -77,6 +77,6 @@ statusReply status.NoMark = reply 0 (0 ∷ 0 ∷ [])
 statusReply (status.Refused r) = reply (r .number) (0 ∷ 0 ∷ [])
 
 -- the same of an item row; a row that is no item has its refusal
-unfoldable pub rowStatus : RowRead → List ℕ → Reply
+unfoldable pub rowStatus : ItemRowRead → List ℕ → Reply
 rowStatus (row.Item x) store = statusReply (statusOf x (x .content) store)
 rowStatus (row.Refused r) store = reply r (0 ∷ 0 ∷ [])

@@ -21,7 +21,7 @@ ghost use Rattle.numbers.specs.Shortest.{shortest};
 ghost use Rattle.words.specs.Write.{wroteAt, placed};
 ghost use Rattle.field.specs.declared.Form.the-variants.{Any};
 ghost use Rattle.field.specs.Reading.{numberGot};
-ghost use Rattle.item_row.specs.Row.{rowAt};
+ghost use Rattle.item_row.specs.Row.{itemOfRow};
 ghost use Rattle.body_check.specs.Reading.{readItems};
 ghost use Rattle.body_check.specs.Body.{readBody};
 ghost use Rattle.body_check.specs.Answers.{checkOf, plainBody};
@@ -34,7 +34,7 @@ use body_check::BodyCheck;
 use body_check::PlainForm;
 use codec::NumberRead;
 use codec::Wrote;
-use item_row::RowRead;
+use item_row::ItemRowRead;
 use log_batch::HeaderRead;
 use log_batch::LogBatch;
 
@@ -206,14 +206,14 @@ fn check_view(queue: u64, long: u64, offset: u64, len: u64, append: &[u8], rewri
 // The status that an item row marks.
 #[no_mangle]
 pub extern "C" fn raft_log_status(row: &[u64; 7], store: &[u8], answer: &mut [u64; 2]) -> u32
-    ensures { λ r. ⌜ reply r (now (answer .exit)) ≡ rowStatus (rowAt (now (row .entry)) 0) (now (store .entry)) ⌝ }
+    ensures { λ r. ⌜ reply r (now (answer .exit)) ≡ rowStatus (itemOfRow (now (row .entry)) 0) (now (store .entry)) ⌝ }
 {
     match item_row::item_of(row[0], row[1], row[2], row[3], row[4], row[5], row[6]) {
-        RowRead::Refused(number) => {
+        ItemRowRead::Refused(number) => {
             *answer = [0, 0];
             number
         }
-        RowRead::Item(item) => put_status(AtomicGroupStatus::parse(item, store), answer),
+        ItemRowRead::Item(item) => put_status(AtomicGroupStatus::parse(item, store), answer),
     }
 }
 

@@ -1,6 +1,6 @@
 // The rewrite and the fetch of locations, on rows of words that the caller lends.
 ghost use mathlib.Core.Path.{_≡_};
-ghost use Rattle.location_rows.specs.Answers.{tableOf, fetchWords};
+ghost use Rattle.location_rows.specs.Answers.{tableFrom, fetchWords};
 ghost use Rattle.item_row.specs.Reply.{reply};
 ghost use Rattle.raft_log.specs.Locations.{gateOf, fetchReply, RewriteReplied};
 use location_rules::Gate;
@@ -17,7 +17,7 @@ pub extern "C" fn raft_log_rewrite(
     gate: u64,
     answer: &mut [u64; 2],
 ) -> u32
-    ensures { λ r. ⌜ RewriteReplied (now (table .entry)) (tableOf «first_index» rewritten) (now (incoming .entry)) «incoming_first» (gateOf «with_gate» gate) (reply r (now (answer .exit))) (now (table .exit)) ⌝ }
+    ensures { λ r. ⌜ RewriteReplied (now (table .entry)) (tableFrom «first_index» rewritten) (now (incoming .entry)) «incoming_first» (gateOf «with_gate» gate) (reply r (now (answer .exit))) (now (table .exit)) ⌝ }
 {
     let g = gate_of(with_gate, gate);
     let r = location_rows::rewrite(table, first_index, rewritten, incoming, incoming_first, g);
@@ -43,7 +43,7 @@ pub extern "C" fn raft_log_fetch(
     gate: u64,
     answer: &mut [u64; 2],
 ) -> u32
-    ensures { λ r. ⌜ reply r (now (answer .exit)) ≡ fetchReply (fetchWords (now (table .entry)) (tableOf «first_index» rewritten) gate) ⌝ }
+    ensures { λ r. ⌜ reply r (now (answer .exit)) ≡ fetchReply (fetchWords (now (table .entry)) (tableFrom «first_index» rewritten) gate) ⌝ }
 {
     let r = location_rows::fetch(table, first_index, rewritten, gate);
     *answer = [r.place as u64, r.len as u64];

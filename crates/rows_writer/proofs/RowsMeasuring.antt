@@ -8,52 +8,52 @@ use native.Mathlib.Omega.{arith}
 use lib.Dec.{ltb, eqb}
 use lib.ListN.{length}
 use borrow.Author.Tests.{lt-ltb, le-ltb, eq-eqb, ne-eqb, eqb-true, ltb-false}
-use Rattle.item_row.specs.declared.RowRead.the-variants.{Refused}
-use Rattle.item_row.specs.Row.{rowAt}
+use Rattle.item_row.specs.declared.ItemRowRead.the-variants.{Refused}
+use Rattle.item_row.specs.Row.{itemOfRow}
 use Rattle.numbers.specs.Shortest.{shortest}
 use Rattle.list_measure.specs.declared.Measured.{Measured}
 use Rattle.list_measure.specs.Bytes.{listBytes}
 use Rattle.list_measure.specs.Refusing.{Verdict, fine, refused, itemsVerdict, listVerdict}
 use Rattle.list_measure.specs.Answers.{measured, measuredOf, measureOf}
-use Rattle.rows_writer.specs.Rows.{rowCount, rowItems, entryLengths, rowNumber, thenRow, rowsVerdict, measureRows}
+use Rattle.rows_writer.specs.Rows.{itemRowCount, rowItems, entryLengths, rowNumber, thenRow, rowsVerdict, measureRows}
 use Rattle.rows_writer.proofs.RowItems.{items-few, row-ends}
 use Rattle.list_measure.proofs.Measuring.{Measuring, told-all, measuring-end}
 
 module _ (s : List ℕ) (checked : Bool) (items entries : List ℕ) where
-  pub rows-many : 256 < rowCount items → measured 9 0 0 0 ≡ measureRows s checked items entries
+  pub rows-many : 256 < itemRowCount items → measured 9 0 0 0 ≡ measureRows s checked items entries
   unfolding measureRows rowsVerdict measuredOf
-  rows-many h = rw (lt-ltb 256 (rowCount items) h)
+  rows-many h = rw (lt-ltb 256 (itemRowCount items) h)
 
-  module _ (few : rowCount items ≤ 256) where
+  module _ (few : itemRowCount items ≤ 256) where
     pub rows-refused : {n k : ℕ} → itemsVerdict s checked (rowItems items) (entryLengths entries) 0 0 0 ≡ refused n k
         → measured n k 0 0 ≡ measureRows s checked items entries
     unfolding measureRows rowsVerdict measuredOf
-    rows-refused e = rw (le-ltb 256 (rowCount items) few, e)
+    rows-refused e = rw (le-ltb 256 (itemRowCount items) few, e)
 
-    pub rows-bad : {t i r : ℕ} → itemsVerdict s checked (rowItems items) (entryLengths entries) 0 0 0 ≡ fine t → length (rowItems items) ≡ i → i < rowCount items
-        → rowAt items i ≡ Refused r → measured r i 0 0 ≡ measureRows s checked items entries
+    pub rows-bad : {t i r : ℕ} → itemsVerdict s checked (rowItems items) (entryLengths entries) 0 0 0 ≡ fine t → length (rowItems items) ≡ i → i < itemRowCount items
+        → itemOfRow items i ≡ Refused r → measured r i 0 0 ≡ measureRows s checked items entries
     unfolding measureRows rowsVerdict measuredOf
     rows-bad {t} {i} {r} e same more bad =
-        let other : i ≡ rowCount items → ⊥ = λ q. omega arith in
-        rw (le-ltb 256 (rowCount items) few, e, same, ne-eqb i (rowCount items) other, bad)
+        let other : i ≡ itemRowCount items → ⊥ = λ q. omega arith in
+        rw (le-ltb 256 (itemRowCount items) few, e, same, ne-eqb i (itemRowCount items) other, bad)
 
-    pub rows-all : length (rowItems items) ≡ rowCount items
+    pub rows-all : length (rowItems items) ≡ itemRowCount items
         → measureOf s checked (rowItems items) (entryLengths entries) ≡ measureRows s checked items entries
     unfolding measureRows rowsVerdict measureOf listVerdict
     rows-all same =
         let small : length (rowItems items) ≤ 256 = omega arith in
-        rw (le-ltb 256 (rowCount items) few, le-ltb 256 (length (rowItems items)) small)
+        rw (le-ltb 256 (itemRowCount items) few, le-ltb 256 (length (rowItems items)) small)
         (ap (λ (v : Verdict). measuredOf v (length (listBytes s (rowItems items) (entryLengths entries)))) (sym (go (itemsVerdict s checked (rowItems items) (entryLengths entries) 0 0 0))))
       where
         go : (v : Verdict) → thenRow items (length (rowItems items)) v ≡ v
-        go (fine t) = rw (eq-eqb (length (rowItems items)) (rowCount items) same)
+        go (fine t) = rw (eq-eqb (length (rowItems items)) (itemRowCount items) same)
         go (refused n k) = refl
 
   -- A length that is not 0 tells that each row is an item.
   pub rows-accepted : {m : Measured} → m ≡ measureRows s checked items entries → (m .length ≡ 0 → ⊥)
-      → (length (rowItems items) ≡ rowCount items) × (m ≡ measureOf s checked (rowItems items) (entryLengths entries))
+      → (length (rowItems items) ≡ itemRowCount items) × (m ≡ measureOf s checked (rowItems items) (entryLengths entries))
   unfolding measureRows rowsVerdict measuredOf
-  rows-accepted {m} e h = let p = first (ltb 256 (rowCount items)) refl e in (p .1, e ∙ sym (rows-all (p .0) (p .1)))
+  rows-accepted {m} e h = let p = first (ltb 256 (itemRowCount items)) refl e in (p .1, e ∙ sym (rows-all (p .0) (p .1)))
     where
       k : ℕ
       k = length (rowItems items)
@@ -61,34 +61,34 @@ module _ (s : List ℕ) (checked : Bool) (items entries : List ℕ) where
       n : ℕ
       n = length (listBytes s (rowItems items) (entryLengths entries))
 
-      third : (t : ℕ) (b : Bool) → eqb k (rowCount items) ≡ b → m ≡ measuredOf (cond b (fine t) (refused (rowNumber (rowAt items k)) k)) n → k ≡ rowCount items
-      third t true g q = eqb-true k (rowCount items) g
+      third : (t : ℕ) (b : Bool) → eqb k (itemRowCount items) ≡ b → m ≡ measuredOf (cond b (fine t) (refused (rowNumber (itemOfRow items k)) k)) n → k ≡ itemRowCount items
+      third t true g q = eqb-true k (itemRowCount items) g
       third t false g q = absurd (h (ap (λ (x : Measured). x .length) q))
 
-      second : (v : Verdict) → m ≡ measuredOf (thenRow items k v) n → k ≡ rowCount items
-      second (fine t) q = third t (eqb k (rowCount items)) refl q
+      second : (v : Verdict) → m ≡ measuredOf (thenRow items k v) n → k ≡ itemRowCount items
+      second (fine t) q = third t (eqb k (itemRowCount items)) refl q
       second (refused a b) q = absurd (h (ap (λ (x : Measured). x .length) q))
 
-      first : (b : Bool) → ltb 256 (rowCount items) ≡ b
+      first : (b : Bool) → ltb 256 (itemRowCount items) ≡ b
           → m ≡ measuredOf (cond b (refused 9 0) (thenRow items k (itemsVerdict s checked (rowItems items) (entryLengths entries) 0 0 0))) n
-          → (rowCount items ≤ 256) × (k ≡ rowCount items)
+          → (itemRowCount items ≤ 256) × (k ≡ itemRowCount items)
       first true g q = absurd (h (ap (λ (x : Measured). x .length) q))
-      first false g q = (ltb-false 256 (rowCount items) g, second (itemsVerdict s checked (rowItems items) (entryLengths entries) 0 0 0) q)
+      first false g q = (ltb-false 256 (itemRowCount items) g, second (itemsVerdict s checked (rowItems items) (entryLengths entries) 0 0 0) q)
 
   -- ---- the loop
 
-  module _ {first i j tails t size : ℕ} (m : Measuring s checked (rowItems items) (entryLengths entries) first i j tails t size) (few : rowCount items ≤ 256)
+  module _ {first i j tails t size : ℕ} (m : Measuring s checked (rowItems items) (entryLengths entries) first i j tails t size) (few : itemRowCount items ≤ 256)
       (z : tails ≤ 0) where
     -- The row that comes next is none.
-    pub bad-row : {r : ℕ} → i < rowCount items → rowAt items i ≡ Refused r → measured r i 0 0 ≡ measureRows s checked items entries
+    pub bad-row : {r : ℕ} → i < itemRowCount items → itemOfRow items i ≡ Refused r → measured r i 0 0 ≡ measureRows s checked items entries
     bad-row more e =
         let same = row-ends items i (m .most) more e in
         rows-bad few (told-all s checked (rowItems items) (entryLengths entries) m z (omega arith)) same more e
 
     -- No row is left.
-    pub rows-end : first ≡ length (shortest (rowCount items)) → rowCount items ≤ i → measuredOf (fine t) size ≡ measureRows s checked items entries
+    pub rows-end : first ≡ length (shortest (itemRowCount items)) → itemRowCount items ≤ i → measuredOf (fine t) size ≡ measureRows s checked items entries
     rows-end e h =
         let least = items-few items in
-        let same : length (rowItems items) ≡ rowCount items = omega (arith, m .most) in
+        let same : length (rowItems items) ≡ itemRowCount items = omega (arith, m .most) in
         measuring-end s checked (rowItems items) (entryLengths entries) m (omega arith) (e ∙ ap (λ (n : ℕ). length (shortest n)) (sym same)) z (omega arith)
         ∙ rows-all few same

@@ -7,9 +7,9 @@ use mathlib.Core.List.{List, [], _∷_}
 use lib.Dec.{ltb, eqb}
 use lib.ListN.{length, getD}
 use Rattle.log_item.specs.declared.LogItem.{LogItem}
-use Rattle.item_row.specs.declared.RowRead.{RowRead}
-use Rattle.item_row.specs.declared.RowRead.the-variants.{Item, Refused}
-use Rattle.item_row.specs.Row.{rowAt}
+use Rattle.item_row.specs.declared.ItemRowRead.{ItemRowRead}
+use Rattle.item_row.specs.declared.ItemRowRead.the-variants.{Item, Refused}
+use Rattle.item_row.specs.Row.{itemOfRow}
 use Rattle.list_measure.specs.declared.Measured.{Measured}
 use Rattle.list_measure.specs.Bytes.{listBytes}
 use Rattle.list_writer.specs.Bytes.{bodyBytes}
@@ -17,21 +17,21 @@ use Rattle.list_measure.specs.Refusing.{Verdict, fine, refused, itemsVerdict}
 use Rattle.list_measure.specs.Answers.{measuredOf}
 
 -- how many rows of seven words there are
-abbrev pub rowCount : List ℕ → ℕ
-rowCount words = length words / 7
+abbrev pub itemRowCount : List ℕ → ℕ
+itemRowCount words = length words / 7
 
 -- an item in front of those that follow; a row that is none ends the list
-abbrev pub before : RowRead → List LogItem → List LogItem
-before (Item x) xs = x ∷ xs
-before (Refused r) xs = []
+abbrev pub itemBefore : ItemRowRead → List LogItem → List LogItem
+itemBefore (Item x) xs = x ∷ xs
+itemBefore (Refused r) xs = []
 
 -- the items of n rows from row i on, up to the first that is none
 unfoldable pub itemsFrom : List ℕ → ℕ → ℕ → List LogItem
 itemsFrom words zero i = []
-itemsFrom words (suc n) i = before (rowAt words i) (itemsFrom words n (i + 1))
+itemsFrom words (suc n) i = itemBefore (itemOfRow words i) (itemsFrom words n (i + 1))
 
 unfoldable pub rowItems : List ℕ → List LogItem
-rowItems words = itemsFrom words (rowCount words) 0
+rowItems words = itemsFrom words (itemRowCount words) 0
 
 -- the lengths of n entry rows from row j on; they are the last of their three words
 unfoldable pub lengthsFrom : List ℕ → ℕ → ℕ → List ℕ
@@ -43,19 +43,19 @@ unfoldable pub entryLengths : List ℕ → List ℕ
 entryLengths words = lengthsFrom words (min (length words / 3) 1024) 0
 
 -- why a row is no item; 0 where it is one
-abbrev pub rowNumber : RowRead → ℕ
+abbrev pub rowNumber : ItemRowRead → ℕ
 rowNumber (Item x) = 0
 rowNumber (Refused r) = r
 
 -- the verdict on the items, then the row behind them where there is one
 abbrev pub thenRow : List ℕ → ℕ → Verdict → Verdict
-thenRow words k (fine t) = cond (eqb k (rowCount words)) (fine t) (refused (rowNumber (rowAt words k)) k)
+thenRow words k (fine t) = cond (eqb k (itemRowCount words)) (fine t) (refused (rowNumber (itemOfRow words k)) k)
 thenRow words k (refused number item) = refused number item
 
 -- 9, then the rows
 unfoldable pub rowsVerdict : List ℕ → Bool → List ℕ → List ℕ → Verdict
 rowsVerdict s checked words lengths =
-    cond (ltb 256 (rowCount words)) (refused 9 0)
+    cond (ltb 256 (itemRowCount words)) (refused 9 0)
     (thenRow words (length (rowItems words)) (itemsVerdict s checked (rowItems words) lengths 0 0 0))
 
 -- the first refusal but 21, or the body's length and the entry total

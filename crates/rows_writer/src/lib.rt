@@ -5,10 +5,10 @@
 ghost use mathlib.Core.Path.{_≡_};
 ghost use Prim.Native.Nat.{_+_, _*_, _≤_};
 ghost use lib.ListN.{length, getD};
-ghost use Rattle.item_row.specs.Row.{rowAt};
+ghost use Rattle.item_row.specs.Row.{itemOfRow};
 ghost use Rattle.list_writer.specs.Answers.{encodedOf, laid};
 ghost use Rattle.rows_writer.specs.Rows.{measureRows, rowsBytes};
-use item_row::RowRead;
+use item_row::ItemRowRead;
 use list_writer::Encoded;
 use list_writer::Measured;
 use log_item::Head;
@@ -40,10 +40,10 @@ pub fn measure_rows(items: &[u64], entries: &[u64], store: &[u8], checked: bool)
             tails -= 1;
         } else if i < count {
             match row_at(items, i) {
-                RowRead::Refused(number) => {
+                ItemRowRead::Refused(number) => {
                     return list_writer::refuse(number, i);
                 }
-                RowRead::Item(item) => match LogItem::measure(item, store, checked, j, rows) {
+                ItemRowRead::Item(item) => match LogItem::measure(item, store, checked, j, rows) {
                     Head::Refused(number) => {
                         return list_writer::refuse(number, i);
                     }
@@ -61,9 +61,9 @@ pub fn measure_rows(items: &[u64], entries: &[u64], store: &[u8], checked: bool)
 }
 
 // The item of row i.
-fn row_at(items: &[u64], i: usize) -> RowRead
+fn row_at(items: &[u64], i: usize) -> ItemRowRead
     requires { ⌜ i * 7 + 7 ≤ length (now items) ⌝ }
-    ensures { λ r. ⌜ r ≡ rowAt (now (items .entry)) i ⌝ }
+    ensures { λ r. ⌜ r ≡ itemOfRow (now (items .entry)) i ⌝ }
 {
     let at = i * 7;
     item_row::item_of(
@@ -115,7 +115,7 @@ pub fn encode_rows(
             j += 1;
             tails -= 1;
         } else if i < count {
-            let RowRead::Item(item) = row_at(items, i) else {
+            let ItemRowRead::Item(item) = row_at(items, i) else {
                 return answer;
             };
             next = list_writer::write_head(item, store, out, next);

@@ -8,9 +8,9 @@ use Rattle.list_writer.specs.declared.Encoded.{Encoded}
 use Rattle.list_writer.specs.Bytes.{bodyBytes}
 use Rattle.list_writer.specs.Answers.{encoded, laid}
 use Rattle.item_batch.specs.declared.LogItemBatch.{LogItemBatch}
-use Rattle.item_batch.specs.Writing.{BodyWritten, listed, rowLengths}
+use Rattle.item_batch.specs.Writing.{BodyWritten, listed, tableLengths}
 use Rattle.item_row.specs.Reply.{Reply, reply}
-use Rattle.speed.specs.Again.{unlessRefused, again, lengthReply, WrittenAgain}
+use Rattle.speed.specs.Again.{encodedUnless, again, lengthReply, WrittenAgain}
 
 -- A call's result r, promised to be m and known to be d, is replied as m is.
 pub told : {R : Type 0} (f : R → Reply) {r d m : R} → r ≡ m → r ≡ d → f d ≡ f m
@@ -19,20 +19,20 @@ told f e k = ap f (sym k ∙ e)
 -- ---- a body written again
 
 module _ (e : Encoded) where
-  refused-is : (n : ℕ) → (n ≡ 0 → ⊥) → encoded n 0 0 ≡ unlessRefused n e
+  refused-is : (n : ℕ) → (n ≡ 0 → ⊥) → encoded n 0 0 ≡ encodedUnless n e
   refused-is zero h = absurd (h refl)
   refused-is (suc n) h = refl
 
-  fine-is : {n : ℕ} → n ≡ 0 → e ≡ unlessRefused n e
+  fine-is : {n : ℕ} → n ≡ 0 → e ≡ encodedUnless n e
   fine-is h = rw h
 
 module _ (body : List ℕ) (signature : ℕ) (out : List ℕ) where
   answered : (t : LogItemBatch) {later : List ℕ} {e : Encoded} → e ≡ again t body out
-      → later ≡ laid e out 0 (bodyBytes body (listed t) (rowLengths t) signature) → WrittenAgain t body signature out (lengthReply e) later
+      → later ≡ laid e out 0 (bodyBytes body (listed t) (tableLengths t) signature) → WrittenAgain t body signature out (lengthReply e) later
   answered t h w =
       record {
         answer = ap lengthReply h;
-        written = w ∙ ap (λ (x : Encoded). laid x out 0 (bodyBytes body (listed t) (rowLengths t) signature)) h;
+        written = w ∙ ap (λ (x : Encoded). laid x out 0 (bodyBytes body (listed t) (tableLengths t) signature)) h;
       }
 
   module _ {t m : LogItemBatch} (known : t ≡ m) where

@@ -9,17 +9,17 @@ use Rattle.list_writer.specs.Bytes.{bodyBytes}
 use Rattle.list_measure.specs.Answers.{measureOf}
 use Rattle.list_writer.specs.Answers.{encoded, encodedOf, laid}
 use Rattle.item_batch.specs.declared.LogItemBatch.{LogItemBatch}
-use Rattle.item_batch.specs.Writing.{listed, rowLengths}
+use Rattle.item_batch.specs.Writing.{listed, tableLengths}
 use Rattle.item_row.specs.Reply.{Reply, reply}
 
 -- where the reading is refused, its refusal and no length
-abbrev pub unlessRefused : ℕ → Encoded → Encoded
-unlessRefused zero e = e
-unlessRefused (suc number) e = encoded (suc number) 0 0
+abbrev pub encodedUnless : ℕ → Encoded → Encoded
+encodedUnless zero e = e
+encodedUnless (suc number) e = encoded (suc number) 0 0
 
 -- else what writing the table answers, with the body as the store
 abbrev pub again : LogItemBatch → List ℕ → List ℕ → Encoded
-again t body out = unlessRefused (t .refusal .number) (encodedOf (measureOf body false (listed t) (rowLengths t)) out 0)
+again t body out = encodedUnless (t .refusal .number) (encodedOf (measureOf body false (listed t) (tableLengths t)) out 0)
 
 -- the length
 abbrev pub lengthReply : Encoded → Reply
@@ -28,4 +28,4 @@ lengthReply e = reply (e .number) (e .length ∷ [])
 -- the reply r and the later contents of out for the table t of a body: the body's bytes, then what stood there; out as it was where it is refused
 pub record WrittenAgain (t : LogItemBatch) (body : List ℕ) (signature : ℕ) (out : List ℕ) (r : Reply) (later : List ℕ) : Type 0 where
   pub answer : r ≡ lengthReply (again t body out)
-  pub written : later ≡ laid (again t body out) out 0 (bodyBytes body (listed t) (rowLengths t) signature)
+  pub written : later ≡ laid (again t body out) out 0 (bodyBytes body (listed t) (tableLengths t) signature)

@@ -7,7 +7,7 @@ ghost use Rattle.seal.specs.Seal.{sealedPart};
 ghost use Rattle.body_check.specs.Body.{readBody};
 ghost use Rattle.item_row.specs.Reply.{reply};
 ghost use Rattle.item_batch.specs.Table.{tableOf};
-ghost use Rattle.item_reader.specs.Rows.{rowAt};
+ghost use Rattle.item_reader.specs.Rows.{nextRow};
 ghost use Rattle.item_reader.specs.Reader.{opened, nthOf};
 ghost use Rattle.speed.specs.Replies.{rowsReply, nthReply, rowReply, tableReply};
 ghost use Rattle.speed.specs.Again.{WrittenAgain};
@@ -47,7 +47,7 @@ pub extern "C" fn speed_row(
     left: usize,
     answer: &mut [u64; 4],
 ) -> u32
-    ensures { λ r. ⌜ reply r (now (answer .exit)) ≡ rowReply (rowAt (sealedPart (now (body .entry))) (record { at = at; total = total; index = index; left = left })) ⌝ }
+    ensures { λ r. ⌜ reply r (now (answer .exit)) ≡ rowReply (nextRow (sealedPart (now (body .entry))) (record { at = at; total = total; index = index; left = left })) ⌝ }
 {
     let rows = EntryRows {
         at,

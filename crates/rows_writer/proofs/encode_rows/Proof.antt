@@ -4,7 +4,7 @@ use Rattle.list_writer.proofs.Bodies.{accepted, writing-begins, body-stored, bo
 use Rattle.list_writer.proofs.Writing.{Writing, row-low, writing-row, item-rows, writing-item}
 use Rattle.rows_writer.proofs.RowsMeasuring.{rows-accepted}
 use Rattle.rows_writer.proofs.RowItems.{row-never, row-item, lengths-few, length-at, words-there}
-use Rattle.rows_writer.specs.Rows.{rowCount, rowItems, entryLengths}
+use Rattle.rows_writer.specs.Rows.{itemRowCount, rowItems, entryLengths}
 use Rattle.log_item.specs.declared.EntryIndexes.{EntryIndexes}
 use denote.Ref.{now}
 use borrow.Author.Needs.{needs}
@@ -18,7 +18,7 @@ use Rattle.rows_writer.proofs.encode_rows.Tie as tie
 abbrev Inv-loop : tie.InvT-loop
 Inv-loop items entries store signature checked out₀ at answer count next₀ i₀ j₀ tails₀ total₀ out next i j tails total =
     Writing store (rowItems items) (entryLengths entries) out₀ next₀ out next i j tails total
-    × (length (rowItems items) ≡ count) × (count ≤ 256) × (length (entryLengths entries) ≤ 1024) × (count ≡ rowCount items)
+    × (length (rowItems items) ≡ count) × (count ≤ 256) × (length (entryLengths entries) ≤ 1024) × (count ≡ itemRowCount items)
 
 abbrev μ-loop : tie.MeasureT-loop
 μ-loop items entries store signature checked out₀ at answer count next₀ i₀ j₀ tails₀ total₀ out next i j tails total = (count - i) * 1025 + tails

@@ -4,7 +4,7 @@ use denote.Ref.{now}
 use Rattle.rows_writer.proofs.RowsMeasuring.{rows-many, rows-refused, bad-row, rows-end}
 use Rattle.list_measure.proofs.Measuring.{Measuring, measuring-start, measuring-row, row-refused, measuring-item, item-refused}
 use Rattle.rows_writer.proofs.RowItems.{items-few, row-there, row-item, lengths-length, length-at, words-there}
-use Rattle.rows_writer.specs.Rows.{rowCount, rowItems, entryLengths}
+use Rattle.rows_writer.specs.Rows.{itemRowCount, rowItems, entryLengths}
 use Rattle.numbers.specs.Shortest.{shortest}
 use borrow.Author.Needs.{needs}
 use native.Mathlib.Omega.{arith}
@@ -16,7 +16,7 @@ use Rattle.rows_writer.proofs.measure_rows.Statement.{statement}
 use Rattle.rows_writer.proofs.measure_rows.Tie as tie
 
 abbrev Inv-loop : tie.InvT-loop
-Inv-loop items entries store checked count rows size₀ i₀ j₀ tails₀ total₀ size i j tails total = Measuring store checked (rowItems items) (entryLengths entries) size₀ i j tails total size × (length (entryLengths entries) ≡ rows) × (rows ≤ 1024) × (count ≤ 256) × (count ≡ rowCount items) × (size₀ ≡ length (shortest count))
+Inv-loop items entries store checked count rows size₀ i₀ j₀ tails₀ total₀ size i j tails total = Measuring store checked (rowItems items) (entryLengths entries) size₀ i j tails total size × (length (entryLengths entries) ≡ rows) × (rows ≤ 1024) × (count ≤ 256) × (count ≡ itemRowCount items) × (size₀ ≡ length (shortest count))
 
 abbrev μ-loop : tie.MeasureT-loop
 μ-loop items entries store checked count rows size₀ i₀ j₀ tails₀ total₀ size i j tails total = (count - i) * 1025 + tails

@@ -1,6 +1,6 @@
 -- `rows_writer::row_at` meets its contract.
 -- Assumes nothing.
-use Rattle.item_row.specs.Row.{rowAt}
+use Rattle.item_row.specs.Row.{itemOfRow}
 use borrow.Author.Needs.{needs}
 use Rattle.rows_writer.proofs.row_at.Statement.{statement}
 use Rattle.rows_writer.proofs.row_at.Tie as tie
@@ -72,7 +72,7 @@ item-of-requires : tie.Need-item-of-requires
 item-of-requires c κs = search needs
 
 returns : tie.Need-returns
-unfolding rowAt
+unfolding itemOfRow
 returns c = c .item-of .ensures
 
 pub row-at-spec : {M : Type 1} → statement M

@@ -46,7 +46,7 @@ use Rattle.refusal.proofs.Refusal as Rf
 use Rattle.refusal.proofs.Refusal.Laws as Rf′
 use Rattle.item_reader.specs.declared.ItemReader.{ItemReader}
 use Rattle.item_reader.specs.declared.Opening.{Opening}
-use Rattle.item_reader.specs.Reader.{openingOf, before}
+use Rattle.item_reader.specs.Reader.{openingOf, atFirst}
 use Rattle.by_hand.proofs.Locals.{tyAt}
 use Rattle.item_reader.proofs.ItemReader as T
 use Rattle.item_reader.proofs.ItemReader.Laws as T′
@@ -110,7 +110,7 @@ module _ {M : Type 1} (𝓤 : URA M) (H : Heap 𝓤) (A : Atoms 𝓤) (W : Given
 
   module _ (o : Opening) (is : Is O.the-row o (valO o ∷ [])) where
     abbrev h : ItemReader
-    h = before s o
+    h = atFirst s o
 
     g-at : o .at < 2 ^ 64
     g-at = LL.owed O.the-type O′.the-laws o _ is .0 .1
@@ -127,7 +127,7 @@ module _ {M : Type 1} (𝓤 : URA M) (H : Heap 𝓤) (A : Atoms 𝓤) (W : Given
     exits : o ≡ openingOf (now s) g → ent 𝓤 (⋆ 𝓤 H A ((‵ (flft κ q) ⊛ ‵ ftrue) ∷ ‵ Own ∷ [])) (Post (LL.val D L h))
     exits e =
         qed W ((‵ (flft κ q) ⊛ ‵ ftrue) ∷ ‵ Own ∷ []) ∵
-        suffices ! _ (ends-at 𝓤 H A f.ended stays (f.clauses 𝓤 H A mem run) W (((κ, tt), (q, tt), tt, a, at), tt) (LL.val D L h) h (tt, (tt, tt)) (tt, (tt, tt))) $ says ! (ap (before s) e) $
+        suffices ! _ (ends-at 𝓤 H A f.ended stays (f.clauses 𝓤 H A mem run) W (((κ, tt), (q, tt), tt, a, at), tt) (LL.val D L h) h (tt, (tt, tt)) (tt, (tt, tt))) $ says ! (ap (atFirst s) e) $
         frame ! $ use1 W (‵ Own ⊛ ‵ Own) (shr-slice-copy 𝓤 H A W (named 0) κ u8 .twice s (v ∷ [])) $ split ! $
         -- [what body owns, twice]: the parameters', and the struct's
         nothing ! $ owned ! u32 (Is u32) (uint-makes 𝓤 H A W w32) g _ (refl, gg) $ fjoin ! $ move ! (1 ∷ 0 ∷ []) $ fjoin ! $ frame ! $
