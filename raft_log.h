@@ -105,22 +105,16 @@ uint32_t raft_log_read_items(const uint8_t *body, size_t body_len, uint64_t *ite
 uint32_t raft_log_read_batch(const uint8_t *data, size_t data_len, uint32_t signature, uint64_t *items, size_t items_words,
                              uint64_t *entries, size_t entries_words, uint64_t answer[9]);
 
-/* Writes all item rows as a body, from the start of out on. answer: item (of a refusal), length. The unchecked form gives no 23. No item
+/* Writes all item rows as a body, from the start of out on. answer: item (of a refusal), length. Unless `checked`, there is no 23. No item
  * rows: count 0 and the footer. */
 uint32_t raft_log_write_body(const uint64_t *items, size_t items_words, const uint64_t *entries, size_t entries_words, const uint8_t *store,
-                             size_t store_len, uint32_t signature, uint8_t *out, size_t out_len, uint64_t answer[2]);
-uint32_t raft_log_write_body_unchecked(const uint64_t *items, size_t items_words, const uint64_t *entries, size_t entries_words,
-                                       const uint8_t *store, size_t store_len, uint32_t signature, uint8_t *out, size_t out_len,
-                                       uint64_t answer[2]);
+                             size_t store_len, uint32_t signature, bool checked, uint8_t *out, size_t out_len, uint64_t answer[2]);
 
-/* Writes a whole batch, with `content` in its block. answer: item (of a refusal), length. The unchecked form gives no 23. No item rows and
- * no content: nothing is written, length 0. */
+/* Writes a whole batch, with `content` in its block. answer: item (of a refusal), length. Unless `checked`, there is no 23. No item rows
+ * and no content: nothing is written, length 0. */
 uint32_t raft_log_write_batch(const uint64_t *items, size_t items_words, const uint64_t *entries, size_t entries_words,
                               const uint8_t *store, size_t store_len, const uint8_t *content, size_t content_len, uint32_t signature,
-                              uint8_t *out, size_t out_len, uint64_t answer[2]);
-uint32_t raft_log_write_batch_unchecked(const uint64_t *items, size_t items_words, const uint64_t *entries, size_t entries_words,
-                                        const uint8_t *store, size_t store_len, const uint8_t *content, size_t content_len,
-                                        uint32_t signature, uint8_t *out, size_t out_len, uint64_t answer[2]);
+                              bool checked, uint8_t *out, size_t out_len, uint64_t answer[2]);
 
 /* Where the bytes of an entry stand in the block that its row's queue names. answer: place, length. File number
  * and block place are not looked at. 26 (queue above 1), 20, 5 and 6 unless the block is empty, 13. */

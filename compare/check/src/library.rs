@@ -45,16 +45,17 @@ impl Subject for Library {
             Case::Batch { signature, bytes, room } => vec![("read_batch", whole(bytes, sign(*signature), *room))],
             Case::WriteBody { signature, list, checked, room } => {
                 let room = written_room(*room, &writing::body_len(list, *checked, LIMITS));
-                let name = if *checked { "write_body" } else { "write_body_unchecked" };
-                vec![(name, written(list, room, |rows, out, answer| lent::write_body(rows, sign(*signature), *checked, out, answer)))]
+                let call = |rows: lent::Rows, out: &mut [u8], answer: &mut [u64; 2]| {
+                    lent::write_body(rows, sign(*signature), *checked, out, answer)
+                };
+                vec![("write_body", written(list, room, call))]
             }
             Case::WriteBatch { signature, list, content, checked, room } => {
                 let room = written_room(*room, &writing::batch_len(list, content.len(), *checked, LIMITS));
-                let name = if *checked { "write_batch" } else { "write_batch_unchecked" };
                 let call = |rows: lent::Rows, out: &mut [u8], answer: &mut [u64; 2]| {
                     lent::write_batch(rows, content, sign(*signature), *checked, out, answer)
                 };
-                vec![(name, written(list, room, call))]
+                vec![("write_batch", written(list, room, call))]
             }
             Case::Block { length, bytes } => {
                 let row = Row { queue: 0, file: NOISE, place: NOISE, block: *length, offset: 0, len: length.saturating_sub(4) };

@@ -61,12 +61,12 @@ impl Subject for Model {
             Case::WriteBody { signature, list, checked, room } => {
                 let room = written_room(*room, &writing::body_len(list, *checked, LIMITS)) as u128;
                 let written = writing::body(list, sign(*signature), *checked, LIMITS, room);
-                vec![(if *checked { "write_body" } else { "write_body_unchecked" }, or_refused(written, Answer::Bytes))]
+                vec![("write_body", or_refused(written, Answer::Bytes))]
             }
             Case::WriteBatch { signature, list, content, checked, room } => {
                 let room = written_room(*room, &writing::batch_len(list, content.len(), *checked, LIMITS)) as u128;
                 let written = writing::batch(list, content, sign(*signature), *checked, LIMITS, room);
-                vec![(if *checked { "write_batch" } else { "write_batch_unchecked" }, or_refused(written, Answer::Bytes))]
+                vec![("write_batch", or_refused(written, Answer::Bytes))]
             }
             Case::Block { length, bytes } => {
                 let viewed = batch::view(bytes, *length, 0, length.saturating_sub(4));

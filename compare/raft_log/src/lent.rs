@@ -70,10 +70,9 @@ pub struct Rows<'a> {
 
 /// Item (of a refusal), length. Unless `checked`, there is no 23.
 pub fn write_body(rows: Rows, signature: u32, checked: bool, out: &mut [u8], answer: &mut [u64; 2]) -> u32 {
-    let call = if checked { sys::raft_log_write_body } else { sys::raft_log_write_body_unchecked };
     let Rows { items, entries, store } = rows;
     unsafe {
-        call(
+        sys::raft_log_write_body(
             items.as_ptr(),
             items.len(),
             entries.as_ptr(),
@@ -81,6 +80,7 @@ pub fn write_body(rows: Rows, signature: u32, checked: bool, out: &mut [u8], ans
             store.as_ptr(),
             store.len(),
             signature,
+            checked,
             out.as_mut_ptr(),
             out.len(),
             answer,
@@ -90,10 +90,9 @@ pub fn write_body(rows: Rows, signature: u32, checked: bool, out: &mut [u8], ans
 
 /// The same for a whole batch, with `content` in its block.
 pub fn write_batch(rows: Rows, content: &[u8], signature: u32, checked: bool, out: &mut [u8], answer: &mut [u64; 2]) -> u32 {
-    let call = if checked { sys::raft_log_write_batch } else { sys::raft_log_write_batch_unchecked };
     let Rows { items, entries, store } = rows;
     unsafe {
-        call(
+        sys::raft_log_write_batch(
             items.as_ptr(),
             items.len(),
             entries.as_ptr(),
@@ -103,6 +102,7 @@ pub fn write_batch(rows: Rows, content: &[u8], signature: u32, checked: bool, ou
             content.as_ptr(),
             content.len(),
             signature,
+            checked,
             out.as_mut_ptr(),
             out.len(),
             answer,

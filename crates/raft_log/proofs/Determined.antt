@@ -32,12 +32,8 @@ use Rattle.raft_log.proofs.reading.raft_log_read_batch.Kinds as read-ba
 use Rattle.raft_log.proofs.reading.raft_log_read_batch.Reads as read-batch-reads
 use Rattle.raft_log.proofs.writing.raft_log_write_body.Kinds as write-body-kinds
 use Rattle.raft_log.proofs.writing.raft_log_write_body.Reads as write-body-reads
-use Rattle.raft_log.proofs.writing.raft_log_write_body_unchecked.Kinds as write-body-unchecked-kinds
-use Rattle.raft_log.proofs.writing.raft_log_write_body_unchecked.Reads as write-body-unchecked-reads
 use Rattle.raft_log.proofs.writing.raft_log_write_batch.Kinds as write-batch-kinds
 use Rattle.raft_log.proofs.writing.raft_log_write_batch.Reads as write-batch-reads
-use Rattle.raft_log.proofs.writing.raft_log_write_batch_unchecked.Kinds as write-batch-unchecked-kinds
-use Rattle.raft_log.proofs.writing.raft_log_write_batch_unchecked.Reads as write-batch-unchecked-reads
 use Rattle.raft_log.proofs.locations.raft_log_rewrite.Kinds as rewrite-kinds
 use Rattle.raft_log.proofs.locations.raft_log_rewrite.Reads as rewrite-reads
 use Rattle.raft_log.proofs.locations.raft_log_fetch.Kinds as fetch-kinds
@@ -94,20 +90,12 @@ read-batch κs a x y s t p q =
     (e .0, e .1, p .rows .item-rows ∙ sym (q .rows .item-rows), p .rows .entry-rows ∙ sym (q .rows .entry-rows))
 
 pub write-body : OneAnswer 5 write-body-kinds.ps write-body-kinds.r write-body-reads.Post
-    (λ κs x y s t. (x ≡ y) × (now (s .1 .1 .1 .1 .1 .0) ≡ now (t .1 .1 .1 .1 .1 .0)) × (now (s .1 .1 .1 .1 .0) ≡ now (t .1 .1 .1 .1 .0)))
+    (λ κs x y s t. (x ≡ y) × (now (s .1 .1 .1 .1 .1 .1 .0) ≡ now (t .1 .1 .1 .1 .1 .1 .0)) × (now (s .1 .1 .1 .1 .1 .0) ≡ now (t .1 .1 .1 .1 .1 .0)))
 write-body κs a x y s t p q = let e = same (p .answer) (q .answer) in (e .0, e .1, p .written ∙ sym (q .written))
 
-pub write-body-unchecked : OneAnswer 5 write-body-unchecked-kinds.ps write-body-unchecked-kinds.r write-body-unchecked-reads.Post
-    (λ κs x y s t. (x ≡ y) × (now (s .1 .1 .1 .1 .1 .0) ≡ now (t .1 .1 .1 .1 .1 .0)) × (now (s .1 .1 .1 .1 .0) ≡ now (t .1 .1 .1 .1 .0)))
-write-body-unchecked κs a x y s t p q = let e = same (p .answer) (q .answer) in (e .0, e .1, p .written ∙ sym (q .written))
-
 pub write-batch : OneAnswer 6 write-batch-kinds.ps write-batch-kinds.r write-batch-reads.Post
-    (λ κs x y s t. (x ≡ y) × (now (s .1 .1 .1 .1 .1 .1 .0) ≡ now (t .1 .1 .1 .1 .1 .1 .0)) × (now (s .1 .1 .1 .1 .1 .0) ≡ now (t .1 .1 .1 .1 .1 .0)))
+    (λ κs x y s t. (x ≡ y) × (now (s .1 .1 .1 .1 .1 .1 .1 .0) ≡ now (t .1 .1 .1 .1 .1 .1 .1 .0)) × (now (s .1 .1 .1 .1 .1 .1 .0) ≡ now (t .1 .1 .1 .1 .1 .1 .0)))
 write-batch κs a x y s t p q = let e = same (p .answer) (q .answer) in (e .0, e .1, p .written ∙ sym (q .written))
-
-pub write-batch-unchecked : OneAnswer 6 write-batch-unchecked-kinds.ps write-batch-unchecked-kinds.r write-batch-unchecked-reads.Post
-    (λ κs x y s t. (x ≡ y) × (now (s .1 .1 .1 .1 .1 .1 .0) ≡ now (t .1 .1 .1 .1 .1 .1 .0)) × (now (s .1 .1 .1 .1 .1 .0) ≡ now (t .1 .1 .1 .1 .1 .0)))
-write-batch-unchecked κs a x y s t p q = let e = same (p .answer) (q .answer) in (e .0, e .1, p .written ∙ sym (q .written))
 
 pub rewrite : OneAnswer 3 rewrite-kinds.ps rewrite-kinds.r rewrite-reads.Post
     (λ κs x y s t. (x ≡ y) × (now (s .1 .1 .1 .1 .1 .1 .1 .0) ≡ now (t .1 .1 .1 .1 .1 .1 .1 .0)) × (now (s .0) ≡ now (t .0)))
