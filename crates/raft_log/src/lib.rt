@@ -9,7 +9,6 @@ pub use locations::raft_log_fetch;
 pub use locations::raft_log_rewrite;
 pub use reading::raft_log_read_batch;
 pub use reading::raft_log_read_body;
-pub use reading::raft_log_read_items;
 pub use writing::raft_log_write_batch;
 pub use writing::raft_log_write_body;
 ghost use mathlib.Core.Path.{_≡_};
@@ -17,10 +16,8 @@ ghost use Rattle.crc.specs.Crc.{crcOf};
 ghost use Rattle.numbers.specs.Number.{readNumber};
 ghost use Rattle.numbers.specs.Shortest.{shortest};
 ghost use Rattle.words.specs.Write.{wroteAt, placed};
-ghost use Rattle.log_item.specs.declared.Form.the-variants.{Any};
 ghost use Rattle.log_item.specs.Reading.{numberGot};
 ghost use Rattle.item_row.specs.Row.{rowAt};
-ghost use Rattle.body_check.specs.Reading.{readItems};
 ghost use Rattle.body_check.specs.Body.{readBody};
 ghost use Rattle.body_check.specs.Answers.{checkOf, plainBody};
 ghost use Rattle.log_batch.specs.Header.{header};
@@ -114,15 +111,6 @@ pub extern "C" fn raft_log_check_body(body: &[u8], signature: u32, answer: &mut 
     ensures { λ r. ⌜ reply r (now (answer .exit)) ≡ checkReply (checkOf (readBody (now (body .entry)) signature)) ⌝ }
 {
     let r = body_check::check(body, signature);
-    put_check(r, answer)
-}
-
-// The same of a body without its footer.
-#[no_mangle]
-pub extern "C" fn raft_log_check_items(body: &[u8], answer: &mut [u64; 5]) -> u32
-    ensures { λ r. ⌜ reply r (now (answer .exit)) ≡ checkReply (checkOf (readItems Any (now (body .entry)))) ⌝ }
-{
-    let r = body_check::check_items(body);
     put_check(r, answer)
 }
 
