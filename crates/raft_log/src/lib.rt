@@ -22,7 +22,7 @@ ghost use Rattle.body_check.specs.Body.{readBody};
 ghost use Rattle.body_check.specs.Answers.{checkOf, plainBody};
 ghost use Rattle.log_batch.specs.Header.{header};
 ghost use Rattle.item_row.specs.Reply.{reply};
-ghost use Rattle.raft_log.specs.Answers.{numberReply, wroteReply, headerReply, checkReply, plainReply, queueCheck, viewOf, markWord, statusReply, rowStatus};
+ghost use Rattle.raft_log.specs.Answers.{numberReply, wroteReply, headerReply, checkReply, plainReply, queueCheck, viewOf, statusReply, rowStatus};
 use atomic_status::AtomicGroupStatus;
 use atomic_status::StatusRead;
 use body_check::BodyCheck;
@@ -208,7 +208,12 @@ fn put_status(status: StatusRead, answer: &mut [u64; 2]) -> u32
 {
     match status {
         StatusRead::Mark { id, status: mark } => {
-            *answer = [mark_of(mark), id];
+            let word = match mark {
+                AtomicGroupStatus::Begin => 1,
+                AtomicGroupStatus::Middle => 2,
+                AtomicGroupStatus::End => 3,
+            };
+            *answer = [word, id];
             refusal::NONE
         }
         StatusRead::NoMark => {
@@ -219,15 +224,5 @@ fn put_status(status: StatusRead, answer: &mut [u64; 2]) -> u32
             *answer = [0, 0];
             refusal.number
         }
-    }
-}
-
-fn mark_of(status: AtomicGroupStatus) -> u64
-    ensures { λ r. ⌜ r ≡ markWord status ⌝ }
-{
-    match status {
-        AtomicGroupStatus::Begin => 1,
-        AtomicGroupStatus::Middle => 2,
-        AtomicGroupStatus::End => 3,
     }
 }

@@ -41,8 +41,6 @@ fn put_batch(batch: BatchCheck, answer: &mut [u64; 9]) -> u32
     ensures { λ r. ⌜ reply r (now (answer .exit)) ≡ batchReply (batch .check) (batch .body) (batch .block) ⌝ }
 {
     let check = batch.check;
-    let body = batch.body;
-    let block = batch.block;
     match check {
         BodyCheck::Accepted {
             items,
@@ -56,10 +54,10 @@ fn put_batch(batch: BatchCheck, answer: &mut [u64; 9]) -> u32
                 entries as u64,
                 total as u64,
                 next as u64,
-                body.at as u64,
-                body.len as u64,
-                block.at as u64,
-                block.len as u64,
+                batch.body.at as u64,
+                batch.body.len as u64,
+                batch.block.at as u64,
+                batch.block.len as u64,
             ];
             refusal::NONE
         }

@@ -1,8 +1,6 @@
 // Bodies and batches, written from rows of words that the caller lends.
-ghost use mathlib.Core.Path.{_≡_};
 ghost use Rattle.item_row.specs.Reply.{reply};
-ghost use Rattle.raft_log.specs.RowsWritten.{writtenReply, BodyRowsWritten, BatchRowsWritten};
-use list_writer::Encoded;
+ghost use Rattle.raft_log.specs.RowsWritten.{BodyRowsWritten, BatchRowsWritten};
 
 // Writes a body. Where `checked`, a put of an internal key is refused.
 #[no_mangle]
@@ -18,7 +16,8 @@ pub extern "C" fn raft_log_write_body(
     ensures { λ r. ⌜ BodyRowsWritten checked (now (items .entry)) (now (entries .entry)) (now (store .entry)) signature (now (out .entry)) (reply r (now (answer .exit))) (now (out .exit)) ⌝ }
 {
     let r = rows_writer::encode_rows(items, entries, store, signature, checked, out, 0);
-    put_written(r, answer)
+    *answer = [r.item as u64, r.length as u64];
+    r.number
 }
 
 // The same for a whole batch.
@@ -36,12 +35,6 @@ pub extern "C" fn raft_log_write_batch(
     ensures { λ r. ⌜ BatchRowsWritten checked (now (items .entry)) (now (entries .entry)) (now (store .entry)) (now (content .entry)) signature (now (out .entry)) (reply r (now (answer .exit))) (now (out .exit)) ⌝ }
 {
     let r = batch_rows::write_rows(items, entries, store, content, signature, checked, out);
-    put_written(r, answer)
-}
-
-fn put_written(written: Encoded, answer: &mut [u64; 2]) -> u32
-    ensures { λ r. ⌜ reply r (now (answer .exit)) ≡ writtenReply written ⌝ }
-{
-    *answer = [written.item as u64, written.length as u64];
-    written.number
+    *answer = [r.item as u64, r.length as u64];
+    r.number
 }
