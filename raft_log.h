@@ -86,41 +86,32 @@ uint32_t raft_log_write_number(uint64_t number, uint8_t *out, size_t out_len, si
 /* The header at the start of a batch. answer: offset of the body, length of the batch, compression type. 1 to 4. */
 uint32_t raft_log_read_header(const uint8_t *data, size_t data_len, uint64_t answer[3]);
 
-/* What a body holds, with its footer and under a signature. answer: item (of a refusal), items, entries, entry total, place after the last
- * item. raft_log_check_items: the same of a body without its footer. */
+/* What a body holds, under a signature. Its footer, the last four bytes, is the checksum of the bytes before it XOR the signature, lowest
+ * byte first. answer: item (of a refusal), items, entries, entry total, place after the last item. */
 uint32_t raft_log_check_body(const uint8_t *body, size_t body_len, uint32_t signature, uint64_t answer[5]);
-uint32_t raft_log_check_items(const uint8_t *body, size_t body_len, uint64_t answer[5]);
 
 /* Whether each number of a body has its shortest spelling. answer: item (of a refusal), 1 yes or 0 no. */
 uint32_t raft_log_is_plain(const uint8_t *body, size_t body_len, uint32_t signature, uint64_t answer[2]);
 
-/* The same as raft_log_check_body and raft_log_check_items, with the item rows and the entry rows. 21 where too few are lent. */
+/* The same as raft_log_check_body, with the item rows and the entry rows. 21 where too few are lent. */
 uint32_t raft_log_read_body(const uint8_t *body, size_t body_len, uint32_t signature, uint64_t *items, size_t items_words, uint64_t *entries,
                             size_t entries_words, uint64_t answer[5]);
-uint32_t raft_log_read_items(const uint8_t *body, size_t body_len, uint64_t *items, size_t items_words, uint64_t *entries,
-                             size_t entries_words, uint64_t answer[5]);
 
 /* The same of a whole batch. Places in the rows, and the place after the last item, are in the body. answer: item (of a refusal), items,
  * entries, entry total, place after the last item, place of the body, its length, place of the block, its length. */
 uint32_t raft_log_read_batch(const uint8_t *data, size_t data_len, uint32_t signature, uint64_t *items, size_t items_words,
                              uint64_t *entries, size_t entries_words, uint64_t answer[9]);
 
-/* Writes all item rows as a body, from the start of out on. answer: item (of a refusal), length. The unchecked form gives no 23. No item
+/* Writes all item rows as a body, from the start of out on. answer: item (of a refusal), length. Unless `checked`, there is no 23. No item
  * rows: count 0 and the footer. */
 uint32_t raft_log_write_body(const uint64_t *items, size_t items_words, const uint64_t *entries, size_t entries_words, const uint8_t *store,
-                             size_t store_len, uint32_t signature, uint8_t *out, size_t out_len, uint64_t answer[2]);
-uint32_t raft_log_write_body_unchecked(const uint64_t *items, size_t items_words, const uint64_t *entries, size_t entries_words,
-                                       const uint8_t *store, size_t store_len, uint32_t signature, uint8_t *out, size_t out_len,
-                                       uint64_t answer[2]);
+                             size_t store_len, uint32_t signature, bool checked, uint8_t *out, size_t out_len, uint64_t answer[2]);
 
-/* Writes a whole batch, with `content` in its block. answer: item (of a refusal), length. The unchecked form gives no 23. No item rows and
- * no content: nothing is written, length 0. */
+/* Writes a whole batch, with `content` in its block. answer: item (of a refusal), length. Unless `checked`, there is no 23. No item rows
+ * and no content: nothing is written, length 0. */
 uint32_t raft_log_write_batch(const uint64_t *items, size_t items_words, const uint64_t *entries, size_t entries_words,
                               const uint8_t *store, size_t store_len, const uint8_t *content, size_t content_len, uint32_t signature,
-                              uint8_t *out, size_t out_len, uint64_t answer[2]);
-uint32_t raft_log_write_batch_unchecked(const uint64_t *items, size_t items_words, const uint64_t *entries, size_t entries_words,
-                                        const uint8_t *store, size_t store_len, const uint8_t *content, size_t content_len,
-                                        uint32_t signature, uint8_t *out, size_t out_len, uint64_t answer[2]);
+                              bool checked, uint8_t *out, size_t out_len, uint64_t answer[2]);
 
 /* Where the bytes of an entry stand in the block that its row's queue names. answer: place, length. File number
  * and block place are not looked at. 26 (queue above 1), 20, 5 and 6 unless the block is empty, 13. */

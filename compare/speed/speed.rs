@@ -168,7 +168,7 @@ fn body_checked(race: &mut Race, name: &'static str, data: &[u8]) {
     let items = &data[..data.len() - 4];
     let check = || {
         let mut answer = [0; 5];
-        assert_eq!(lent::check_items(black_box(items), &mut answer), 0);
+        assert_eq!(values::check_items(black_box(items), &mut answer), 0);
         answer[1]
     };
     let rust = || Engine::decode_items(black_box(items)) as u64;

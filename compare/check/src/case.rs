@@ -21,7 +21,7 @@ pub enum Room {
 /// What stands behind the bytes of a body.
 #[derive(Clone, Copy, Debug, PartialEq, Eq)]
 pub enum Seal {
-    /// They are read without a footer.
+    /// Nothing: the oracle is asked for the items alone, and the library gets the right footer under no signature.
     None,
     /// The right footer is put behind them.
     Right,
@@ -129,6 +129,15 @@ pub fn sealed(bytes: &[u8], signature: u32) -> Vec<u8> {
     [bytes, &footer.to_le_bytes()].concat()
 }
 
+/// A body with its footer, and the signature under which it is read.
+pub fn footed(signature: u32, bytes: &[u8], seal: Seal) -> (Vec<u8>, u32) {
+    match seal {
+        Seal::None => (sealed(bytes, 0), 0),
+        Seal::Right => (sealed(bytes, signature), signature),
+        Seal::Given => (bytes.to_vec(), signature),
+    }
+}
+
 impl Case {
     pub fn kind(&self) -> usize {
         match self {
@@ -146,14 +155,6 @@ impl Case {
             Case::Status { .. } => 11,
             Case::Rewrite { .. } => 12,
             Case::Fetch { .. } => 13,
-        }
-    }
-
-    /// The bytes of a body as they are read, footer included where there is one.
-    pub fn body_bytes(signature: Option<u64>, bytes: &[u8], seal: Seal) -> Vec<u8> {
-        match seal {
-            Seal::Right => sealed(bytes, sign(signature)),
-            Seal::None | Seal::Given => bytes.to_vec(),
         }
     }
 
@@ -183,7 +184,7 @@ impl Case {
             Case::Item { total, bytes } => format!("item {total} {}", hex(bytes)),
             Case::Body { bytes, seal: Seal::None, .. } => format!("items {}", hex(bytes)),
             Case::Body { signature, bytes, seal, .. } => {
-                format!("body {} {}", file(*signature), hex(&Case::body_bytes(*signature, bytes, *seal)))
+                format!("body {} {}", file(*signature), hex(&footed(sign(*signature), bytes, *seal).0))
             }
             Case::WriteBody { signature, list, .. } => format!("wbody {} {}", file(*signature), items(list, false)),
             Case::WriteBatch { signature, list, content, checked, .. } => {

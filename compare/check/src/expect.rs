@@ -1,6 +1,6 @@
 //! What the oracle has to say of a case if the Rust does as document 01 says. Refusals are told apart by the kind of error and by the
 //! beginning of log_batch.rs's own text; a refusal that the Rust has no error for is nowhere to be said, so its case has to be listed.
-use crate::case::{self, sealed, sign, Case, Seal};
+use crate::case::{self, footed, sign, Case, Seal};
 use crate::model::reading::{self, Reader, Stop};
 use crate::model::{batch, locations, numbers, writing, Limits, Note, Refusal, LIMITS};
 use crate::text::hex;
@@ -121,10 +121,7 @@ fn item(total: u32, bytes: &[u8], limits: Limits) -> Said {
 }
 
 fn body(signature: Option<u64>, bytes: &[u8], seal: Seal, limits: Limits) -> Said {
-    let (whole, signature) = match seal {
-        Seal::None => (sealed(bytes, 0), 0),
-        _ => (Case::body_bytes(signature, bytes, seal), sign(signature)),
-    };
+    let (whole, signature) = footed(sign(signature), bytes, seal);
     match reading::body(&whole, signature, limits).read {
         Ok(table) if table.items.is_empty() => Said::Line("ok 0".into()),
         Ok(table) => Said::Line(format!("ok {} {}", table.items.len(), case::spelled(&whole, &table))),

@@ -2,7 +2,7 @@
 //! call, and what is not the result has to be as it was. Row words that are not named are filled with noise where the library is to
 //! ignore them.
 use crate::answer::Answer;
-use crate::case::{sealed, sign, Case, Room, Seal};
+use crate::case::{footed, sealed, sign, Case, Room, Seal};
 use crate::model::locations::{Locations, Row};
 use crate::model::reading::{self, Reader};
 use crate::model::writing::{self, List};
@@ -45,16 +45,17 @@ impl Subject for Library {
             Case::Batch { signature, bytes, room } => vec![("read_batch", whole(bytes, sign(*signature), *room))],
             Case::WriteBody { signature, list, checked, room } => {
                 let room = written_room(*room, &writing::body_len(list, *checked, LIMITS));
-                let name = if *checked { "write_body" } else { "write_body_unchecked" };
-                vec![(name, written(list, room, |rows, out, answer| lent::write_body(rows, sign(*signature), *checked, out, answer)))]
+                let call = |rows: lent::Rows, out: &mut [u8], answer: &mut [u64; 2]| {
+                    lent::write_body(rows, sign(*signature), *checked, out, answer)
+                };
+                vec![("write_body", written(list, room, call))]
             }
             Case::WriteBatch { signature, list, content, checked, room } => {
                 let room = written_room(*room, &writing::batch_len(list, content.len(), *checked, LIMITS));
-                let name = if *checked { "write_batch" } else { "write_batch_unchecked" };
                 let call = |rows: lent::Rows, out: &mut [u8], answer: &mut [u64; 2]| {
                     lent::write_batch(rows, content, sign(*signature), *checked, out, answer)
                 };
-                vec![(name, written(list, room, call))]
+                vec![("write_batch", written(list, room, call))]
             }
             Case::Block { length, bytes } => {
                 let row = Row { queue: 0, file: NOISE, place: NOISE, block: *length, offset: 0, len: length.saturating_sub(4) };
@@ -171,9 +172,9 @@ fn row_of(item: &Item) -> [u64; ITEM_WORDS] {
     row
 }
 
-fn read_items(bytes: &[u8], lent: &mut Lent) -> Answer {
+fn read_body(bytes: &[u8], signature: u32, lent: &mut Lent) -> Answer {
     let mut answer = [NOISE; 5];
-    let number = lent::read_items(bytes, &mut lent.items, &mut lent.entries, &mut answer);
+    let number = lent::read_body(bytes, signature, &mut lent.items, &mut lent.entries, &mut answer);
     if number != 0 && !(untouched(&lent.items) && untouched(&lent.entries)) {
         return touched("a row of a refused reading");
     }
@@ -195,7 +196,7 @@ fn item(total: u32, bytes: &[u8]) -> Vec<Part> {
     let whole = [before.as_slice(), bytes].concat();
     let table = Reader::new(&whole, 0, LIMITS).items().ok();
     let mut lent = Lent::new(Room::Plenty, table.as_ref());
-    let answer = match read_items(&whole, &mut lent) {
+    let answer = match read_body(&sealed(&whole, 0), 0, &mut lent) {
         Answer::Refused { number, item } if item == u64::from(total > 0) => Answer::Refused { number, item: 0 },
         Answer::Table { mut items, entries, total: after, next, .. } if items.len() == 1 + usize::from(total > 0) => {
             let mut item = items.pop().unwrap();
@@ -205,7 +206,7 @@ fn item(total: u32, bytes: &[u8]) -> Vec<Part> {
         }
         other => other,
     };
-    vec![("read_items", answer)]
+    vec![("read_body", answer)]
 }
 
 fn shift(item: &mut Item, by: u64) {
@@ -220,30 +221,14 @@ fn shift(item: &mut Item, by: u64) {
 }
 
 fn body(signature: u32, bytes: &[u8], seal: Seal, room: Room) -> Vec<Part> {
-    let counts = |number: u32, answer: &[u64; 5]| {
-        replied(number, 1, answer, || Answer::Counts { items: answer[1], entries: answer[2], total: answer[3], next: answer[4] })
-    };
+    let (bytes, signature) = footed(signature, bytes, seal);
     let mut answer = [NOISE; 5];
-    if seal == Seal::None {
-        let number = lent::check_items(bytes, &mut answer);
-        let check = counts(number, &answer);
-        let table = Reader::new(bytes, 0, LIMITS).items().ok();
-        let read = read_items(bytes, &mut Lent::new(room, table.as_ref()));
-        return vec![("check_items", check), ("read_items", read), ("is_plain", plain(&sealed(bytes, 0), 0))];
-    }
-    let bytes = &if seal == Seal::Right { sealed(bytes, signature) } else { bytes.to_vec() };
-    let number = lent::check_body(bytes, signature, &mut answer);
-    let check = counts(number, &answer);
-    let table = reading::body(bytes, signature, LIMITS).read.ok();
-    let mut lent = Lent::new(room, table.as_ref());
-    let mut answer = [NOISE; 5];
-    let number = lent::read_body(bytes, signature, &mut lent.items, &mut lent.entries, &mut answer);
-    let read = if number != 0 && !(untouched(&lent.items) && untouched(&lent.entries)) {
-        touched("a row of a refused reading")
-    } else {
-        replied(number, 1, &answer, || lent.table(answer[1], answer[2], answer[3], answer[4], [0, bytes.len() as u64], [0, 0]))
-    };
-    vec![("check_body", check), ("read_body", read), ("is_plain", plain(bytes, signature))]
+    let number = lent::check_body(&bytes, signature, &mut answer);
+    let [_, items, entries, total, next] = answer;
+    let check = replied(number, 1, &answer, || Answer::Counts { items, entries, total, next });
+    let table = reading::body(&bytes, signature, LIMITS).read.ok();
+    let read = read_body(&bytes, signature, &mut Lent::new(room, table.as_ref()));
+    vec![("check_body", check), ("read_body", read), ("is_plain", plain(&bytes, signature))]
 }
 
 fn plain(bytes: &[u8], signature: u32) -> Answer {

@@ -21,7 +21,7 @@
 //! key and content as bytes. ROWS is a count and six numbers for each (queue 0 or 1, file, place, block length, entry offset, entry length).
 //! WITH is 1 where a gate counts. APPEND and REWRITE are the live rows of the two queues afterwards. Any answer may be `refused N` instead,
 //! with 01's number for the error that the Rust gave; which item was refused the Rust does not say.
-use crate::case::{sign, Case, Seal};
+use crate::case::{footed, sign, Case, Seal};
 use crate::expect::{normal, said};
 use crate::make;
 use crate::model::locations::Row;
@@ -176,8 +176,13 @@ fn spelled(case: &Case, line: &str, rng: &mut Rng) -> Option<(String, String)> {
         }
         Case::Body { signature, bytes, seal, .. } => {
             let answer = || Some(format!("{}{}", number(1)?, items(line.splitn(3, ' ').nth(2).unwrap_or(""))?));
-            let (kind, signature) = if *seal == Seal::None { ("items", 0) } else { ("footed", sign(*signature)) };
-            (format!("{kind} {signature:x} {}", hex(&Case::body_bytes(Some(signature.into()), bytes, *seal))), or_refused(answer())?)
+            let question = if *seal == Seal::None {
+                format!("items 0 {}", hex(bytes))
+            } else {
+                let (body, signature) = footed(sign(*signature), bytes, *seal);
+                format!("footed {signature:x} {}", hex(&body))
+            };
+            (question, or_refused(answer())?)
         }
         Case::WriteBody { signature, list, .. } => {
             (format!("body {:x} {}", sign(*signature), hex(&respelled(list, rng)?)), words[2].into())

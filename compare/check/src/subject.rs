@@ -1,6 +1,6 @@
 //! Whatever answers cases. The model stands here; the library, where it is linked, in library.rs.
 use crate::answer::Answer;
-use crate::case::{sealed, sign, Case, Room, Seal};
+use crate::case::{footed, sign, Case, Room, Seal};
 use crate::model::{self, batch, locations, numbers, reading, writing, Content, LIMITS};
 
 /// An answer with the name of the function that gives it.
@@ -55,18 +55,18 @@ impl Subject for Model {
                 let answer = |h: batch::Header| Answer::Header { offset: h.offset, len: h.len, compression: h.compression.into() };
                 vec![("read_header", or_refused(batch::header(bytes), answer))]
             }
-            Case::Item { total, bytes } => vec![("read_items", item(*total, bytes))],
+            Case::Item { total, bytes } => vec![("read_body", item(*total, bytes))],
             Case::Body { signature, bytes, seal, room } => body(sign(*signature), bytes, *seal, *room),
             Case::Batch { signature, bytes, room } => vec![("read_batch", whole(bytes, sign(*signature), *room))],
             Case::WriteBody { signature, list, checked, room } => {
                 let room = written_room(*room, &writing::body_len(list, *checked, LIMITS)) as u128;
                 let written = writing::body(list, sign(*signature), *checked, LIMITS, room);
-                vec![(if *checked { "write_body" } else { "write_body_unchecked" }, or_refused(written, Answer::Bytes))]
+                vec![("write_body", or_refused(written, Answer::Bytes))]
             }
             Case::WriteBatch { signature, list, content, checked, room } => {
                 let room = written_room(*room, &writing::batch_len(list, content.len(), *checked, LIMITS)) as u128;
                 let written = writing::batch(list, content, sign(*signature), *checked, LIMITS, room);
-                vec![(if *checked { "write_batch" } else { "write_batch_unchecked" }, or_refused(written, Answer::Bytes))]
+                vec![("write_batch", or_refused(written, Answer::Bytes))]
             }
             Case::Block { length, bytes } => {
                 let viewed = batch::view(bytes, *length, 0, length.saturating_sub(4));
@@ -106,26 +106,17 @@ fn item(total: u32, bytes: &[u8]) -> Answer {
 
 /// What a body holds, its rows, and whether it is plain.
 fn body(signature: u32, bytes: &[u8], seal: Seal, room: Room) -> Vec<Part> {
-    let whole = match seal {
-        Seal::None => sealed(bytes, 0),
-        Seal::Right => sealed(bytes, signature),
-        Seal::Given => bytes.to_vec(),
-    };
-    let signature = if seal == Seal::None { 0 } else { signature };
+    let (whole, signature) = footed(signature, bytes, seal);
     let body = reading::body(&whole, signature, LIMITS);
-    let names = if seal == Seal::None { ["check_items", "read_items"] } else { ["check_body", "read_body"] };
-    let len = if seal == Seal::None { bytes.len() } else { whole.len() };
-    // An empty body without its footer has no item count: with the footer it is too short.
-    let read = if seal == Seal::None && bytes.is_empty() { Err(model::Refusal::of(7)) } else { body.read.clone() };
-    let plain = or_refused(body.read, |_| Answer::Plain(body.plain));
-    let counts = or_refused(read.clone(), |table| Answer::Counts {
+    let plain = or_refused(body.read.clone(), |_| Answer::Plain(body.plain));
+    let counts = or_refused(body.read.clone(), |table| Answer::Counts {
         items: table.items.len() as u64,
         entries: table.entries.len() as u64,
         total: table.total,
         next: table.next as u64,
     });
-    let rows = or_refused(read, |table| rows(table, room, [0, len as u64], [0, 0]));
-    vec![(names[0], counts), (names[1], rows), ("is_plain", plain)]
+    let rows = or_refused(body.read, |table| rows(table, room, [0, whole.len() as u64], [0, 0]));
+    vec![("check_body", counts), ("read_body", rows), ("is_plain", plain)]
 }
 
 /// The table, or 21 where too few rows are lent.

@@ -32,11 +32,6 @@ pub fn check_body(body: &[u8], signature: u32, answer: &mut [u64; 5]) -> u32 {
     unsafe { sys::raft_log_check_body(body.as_ptr(), body.len(), signature, answer) }
 }
 
-/// The same of a body without its footer.
-pub fn check_items(body: &[u8], answer: &mut [u64; 5]) -> u32 {
-    unsafe { sys::raft_log_check_items(body.as_ptr(), body.len(), answer) }
-}
-
 /// Item (of a refusal), 1 yes or 0 no.
 pub fn is_plain(body: &[u8], signature: u32, answer: &mut [u64; 2]) -> u32 {
     unsafe { sys::raft_log_is_plain(body.as_ptr(), body.len(), signature, answer) }
@@ -46,12 +41,6 @@ pub fn is_plain(body: &[u8], signature: u32, answer: &mut [u64; 2]) -> u32 {
 pub fn read_body(body: &[u8], signature: u32, items: &mut [u64], entries: &mut [u64], answer: &mut [u64; 5]) -> u32 {
     let (i, e) = (items.as_mut_ptr(), entries.as_mut_ptr());
     unsafe { sys::raft_log_read_body(body.as_ptr(), body.len(), signature, i, items.len(), e, entries.len(), answer) }
-}
-
-/// As check_items, with the rows.
-pub fn read_items(body: &[u8], items: &mut [u64], entries: &mut [u64], answer: &mut [u64; 5]) -> u32 {
-    let (i, e) = (items.as_mut_ptr(), entries.as_mut_ptr());
-    unsafe { sys::raft_log_read_items(body.as_ptr(), body.len(), i, items.len(), e, entries.len(), answer) }
 }
 
 /// As read_body, of a whole batch; then place and length of the body and of the block.
@@ -70,10 +59,9 @@ pub struct Rows<'a> {
 
 /// Item (of a refusal), length. Unless `checked`, there is no 23.
 pub fn write_body(rows: Rows, signature: u32, checked: bool, out: &mut [u8], answer: &mut [u64; 2]) -> u32 {
-    let call = if checked { sys::raft_log_write_body } else { sys::raft_log_write_body_unchecked };
     let Rows { items, entries, store } = rows;
     unsafe {
-        call(
+        sys::raft_log_write_body(
             items.as_ptr(),
             items.len(),
             entries.as_ptr(),
@@ -81,6 +69,7 @@ pub fn write_body(rows: Rows, signature: u32, checked: bool, out: &mut [u8], ans
             store.as_ptr(),
             store.len(),
             signature,
+            checked,
             out.as_mut_ptr(),
             out.len(),
             answer,
@@ -90,10 +79,9 @@ pub fn write_body(rows: Rows, signature: u32, checked: bool, out: &mut [u8], ans
 
 /// The same for a whole batch, with `content` in its block.
 pub fn write_batch(rows: Rows, content: &[u8], signature: u32, checked: bool, out: &mut [u8], answer: &mut [u64; 2]) -> u32 {
-    let call = if checked { sys::raft_log_write_batch } else { sys::raft_log_write_batch_unchecked };
     let Rows { items, entries, store } = rows;
     unsafe {
-        call(
+        sys::raft_log_write_batch(
             items.as_ptr(),
             items.len(),
             entries.as_ptr(),
@@ -103,6 +91,7 @@ pub fn write_batch(rows: Rows, content: &[u8], signature: u32, checked: bool, ou
             content.as_ptr(),
             content.len(),
             signature,
+            checked,
             out.as_mut_ptr(),
             out.len(),
             answer,

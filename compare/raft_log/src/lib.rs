@@ -104,13 +104,6 @@ pub fn check_body(body: &[u8], signature: u32) -> Result<Counts, Refusal> {
     Ok(counts(&answer))
 }
 
-/// The same of a body without its footer.
-pub fn check_items(body: &[u8]) -> Result<Counts, Refusal> {
-    let mut answer = [0; 5];
-    result(lent::check_items(body, &mut answer), answer[0])?;
-    Ok(counts(&answer))
-}
-
 /// Whether each number of an accepted body has its shortest spelling.
 pub fn is_plain(body: &[u8], signature: u32) -> Result<bool, Refusal> {
     let mut answer = [0; 2];
@@ -139,15 +132,6 @@ pub fn read_body(body: &[u8], signature: u32) -> Result<Table, Refusal> {
     let (mut items, mut entries) = rows_for(&counted);
     let mut answer = [0; 5];
     result(lent::read_body(body, signature, &mut items, &mut entries, &mut answer), answer[0])?;
-    Ok(table(&counted, &items, &entries))
-}
-
-/// The same of a body without its footer.
-pub fn read_items(body: &[u8]) -> Result<Table, Refusal> {
-    let counted = check_items(body)?;
-    let (mut items, mut entries) = rows_for(&counted);
-    let mut answer = [0; 5];
-    result(lent::read_items(body, &mut items, &mut entries, &mut answer), answer[0])?;
     Ok(table(&counted, &items, &entries))
 }
 

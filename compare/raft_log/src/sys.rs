@@ -8,21 +8,11 @@ extern "C" {
     pub fn raft_log_write_number(number: u64, out: *mut u8, out_len: usize, at: usize, answer: *mut [u64; 1]) -> u32;
     pub fn raft_log_read_header(data: *const u8, data_len: usize, answer: *mut [u64; 3]) -> u32;
     pub fn raft_log_check_body(body: *const u8, body_len: usize, signature: u32, answer: *mut [u64; 5]) -> u32;
-    pub fn raft_log_check_items(body: *const u8, body_len: usize, answer: *mut [u64; 5]) -> u32;
     pub fn raft_log_is_plain(body: *const u8, body_len: usize, signature: u32, answer: *mut [u64; 2]) -> u32;
     pub fn raft_log_read_body(
         body: *const u8,
         body_len: usize,
         signature: u32,
-        items: *mut u64,
-        items_words: usize,
-        entries: *mut u64,
-        entries_words: usize,
-        answer: *mut [u64; 5],
-    ) -> u32;
-    pub fn raft_log_read_items(
-        body: *const u8,
-        body_len: usize,
         items: *mut u64,
         items_words: usize,
         entries: *mut u64,
@@ -47,18 +37,7 @@ extern "C" {
         store: *const u8,
         store_len: usize,
         signature: u32,
-        out: *mut u8,
-        out_len: usize,
-        answer: *mut [u64; 2],
-    ) -> u32;
-    pub fn raft_log_write_body_unchecked(
-        items: *const u64,
-        items_words: usize,
-        entries: *const u64,
-        entries_words: usize,
-        store: *const u8,
-        store_len: usize,
-        signature: u32,
+        checked: bool,
         out: *mut u8,
         out_len: usize,
         answer: *mut [u64; 2],
@@ -73,20 +52,7 @@ extern "C" {
         content: *const u8,
         content_len: usize,
         signature: u32,
-        out: *mut u8,
-        out_len: usize,
-        answer: *mut [u64; 2],
-    ) -> u32;
-    pub fn raft_log_write_batch_unchecked(
-        items: *const u64,
-        items_words: usize,
-        entries: *const u64,
-        entries_words: usize,
-        store: *const u8,
-        store_len: usize,
-        content: *const u8,
-        content_len: usize,
-        signature: u32,
+        checked: bool,
         out: *mut u8,
         out_len: usize,
         answer: *mut [u64; 2],

@@ -43,27 +43,28 @@ fn headers() {
     assert_eq!(number(read_header(&[0; 15])), (1, 0));
 }
 
+/// Items with the footer that makes them a body.
+fn sealed(items: &[u8], signature: u32) -> Vec<u8> {
+    [items, &(crc32(items) ^ signature).to_le_bytes()].concat()
+}
+
 #[test]
 fn bodies() {
-    let body = [2, 1, 2, 1, 3, 1, 3, 10, 4, 4, 10];
+    let body = sealed(&[2, 1, 2, 1, 3, 1, 3, 10, 4, 4, 10], 7);
     let counts = Counts { items: 2, entries: 3, total: 10, next: 11 };
-    assert_eq!(check_items(&body), Ok(counts));
-    let table = read_items(&body).unwrap();
+    assert_eq!(check_body(&body, 7), Ok(counts));
+    let table = read_body(&body, 7).unwrap();
     assert_eq!(table.items, [item(1, Content::Command(Command::Clean)), item(3, Content::Entries { count: 3, first_index: 10 })]);
     let rows: Vec<_> = table.entries.iter().map(|e| (e.index, e.offset, e.len)).collect();
     assert_eq!(rows, [(10, 0, 4), (11, 4, 0), (12, 4, 6)]);
     assert_eq!((table.total, table.next), (10, 11));
-    assert_eq!(number(read_items(&[2, 1, 2, 1, 3, 1, 2, 10, 4, 3])), (15, 1));
-    assert_eq!(number(check_items(&[])), (7, 0));
-    let sealed = [body.as_slice(), &(crc32(&body) ^ 7).to_le_bytes()].concat();
-    assert_eq!(check_body(&sealed, 7), Ok(counts));
-    assert_eq!(read_body(&sealed, 7), Ok(table));
-    assert_eq!(is_plain(&sealed, 7), Ok(true));
-    assert_eq!(number(check_body(&sealed, 8)), (6, 0));
-    assert_eq!(number(is_plain(&sealed[..4], 7)), (5, 0));
-    let padded = [1, 0x80, 0, 2, 1];
-    let padded = [padded.as_slice(), &crc32(&padded).to_le_bytes()].concat();
-    assert_eq!(is_plain(&padded, 0), Ok(false));
+    assert_eq!(number(read_body(&sealed(&[2, 1, 2, 1, 3, 1, 2, 10, 4, 3], 0), 0)), (15, 1));
+    assert_eq!(number(check_body(&sealed(&[0x80], 0), 0)), (7, 0));
+    assert_eq!(number(check_body(&sealed(&[], 0), 0)), (5, 0));
+    assert_eq!(is_plain(&body, 7), Ok(true));
+    assert_eq!(number(check_body(&body, 8)), (6, 0));
+    assert_eq!(number(is_plain(&body[..4], 7)), (5, 0));
+    assert_eq!(is_plain(&sealed(&[1, 0x80, 0, 2, 1], 0), 0), Ok(false));
 }
 
 #[test]

@@ -16,8 +16,6 @@ use Rattle.raft_log.proofs.raft_log_read_header.Kinds as read-header-ki
 use Rattle.raft_log.proofs.raft_log_read_header.Reads as read-header-reads
 use Rattle.raft_log.proofs.raft_log_check_body.Kinds as check-body-kinds
 use Rattle.raft_log.proofs.raft_log_check_body.Reads as check-body-reads
-use Rattle.raft_log.proofs.raft_log_check_items.Kinds as check-items-kinds
-use Rattle.raft_log.proofs.raft_log_check_items.Reads as check-items-reads
 use Rattle.raft_log.proofs.raft_log_is_plain.Kinds as is-plain-kinds
 use Rattle.raft_log.proofs.raft_log_is_plain.Reads as is-plain-reads
 use Rattle.raft_log.proofs.raft_log_entry_view.Kinds as entry-view-kinds
@@ -26,18 +24,12 @@ use Rattle.raft_log.proofs.raft_log_status.Kinds as status-kinds
 use Rattle.raft_log.proofs.raft_log_status.Reads as status-reads
 use Rattle.raft_log.proofs.reading.raft_log_read_body.Kinds as read-body-kinds
 use Rattle.raft_log.proofs.reading.raft_log_read_body.Reads as read-body-reads
-use Rattle.raft_log.proofs.reading.raft_log_read_items.Kinds as read-items-kinds
-use Rattle.raft_log.proofs.reading.raft_log_read_items.Reads as read-items-reads
 use Rattle.raft_log.proofs.reading.raft_log_read_batch.Kinds as read-batch-kinds
 use Rattle.raft_log.proofs.reading.raft_log_read_batch.Reads as read-batch-reads
 use Rattle.raft_log.proofs.writing.raft_log_write_body.Kinds as write-body-kinds
 use Rattle.raft_log.proofs.writing.raft_log_write_body.Reads as write-body-reads
-use Rattle.raft_log.proofs.writing.raft_log_write_body_unchecked.Kinds as write-body-unchecked-kinds
-use Rattle.raft_log.proofs.writing.raft_log_write_body_unchecked.Reads as write-body-unchecked-reads
 use Rattle.raft_log.proofs.writing.raft_log_write_batch.Kinds as write-batch-kinds
 use Rattle.raft_log.proofs.writing.raft_log_write_batch.Reads as write-batch-reads
-use Rattle.raft_log.proofs.writing.raft_log_write_batch_unchecked.Kinds as write-batch-unchecked-kinds
-use Rattle.raft_log.proofs.writing.raft_log_write_batch_unchecked.Reads as write-batch-unchecked-reads
 use Rattle.raft_log.proofs.locations.raft_log_rewrite.Kinds as rewrite-kinds
 use Rattle.raft_log.proofs.locations.raft_log_rewrite.Reads as rewrite-reads
 use Rattle.raft_log.proofs.locations.raft_log_fetch.Kinds as fetch-kinds
@@ -63,9 +55,6 @@ read-header κs a x y s t p q = same p q
 pub check-body : OneAnswer 2 check-body-kinds.ps check-body-kinds.r check-body-reads.Post (λ κs x y s t. (x ≡ y) × (now (s .1 .1 .0) ≡ now (t .1 .1 .0)))
 check-body κs a x y s t p q = same p q
 
-pub check-items : OneAnswer 2 check-items-kinds.ps check-items-kinds.r check-items-reads.Post (λ κs x y s t. (x ≡ y) × (now (s .1 .0) ≡ now (t .1 .0)))
-check-items κs a x y s t p q = same p q
-
 pub is-plain : OneAnswer 2 is-plain-kinds.ps is-plain-kinds.r is-plain-reads.Post (λ κs x y s t. (x ≡ y) × (now (s .1 .1 .0) ≡ now (t .1 .1 .0)))
 is-plain κs a x y s t p q = same p q
 
@@ -81,12 +70,6 @@ read-body κs a x y s t p q =
     let e = same (p .answer) (q .answer) in
     (e .0, e .1, p .rows .item-rows ∙ sym (q .rows .item-rows), p .rows .entry-rows ∙ sym (q .rows .entry-rows))
 
-pub read-items : OneAnswer 4 read-items-kinds.ps read-items-kinds.r read-items-reads.Post
-    (λ κs x y s t. (x ≡ y) × (now (s .1 .1 .1 .0) ≡ now (t .1 .1 .1 .0)) × (now (s .1 .0) ≡ now (t .1 .0)) × (now (s .1 .1 .0) ≡ now (t .1 .1 .0)))
-read-items κs a x y s t p q =
-    let e = same (p .answer) (q .answer) in
-    (e .0, e .1, p .rows .item-rows ∙ sym (q .rows .item-rows), p .rows .entry-rows ∙ sym (q .rows .entry-rows))
-
 pub read-batch : OneAnswer 4 read-batch-kinds.ps read-batch-kinds.r read-batch-reads.Post
     (λ κs x y s t. (x ≡ y) × (now (s .1 .1 .1 .1 .0) ≡ now (t .1 .1 .1 .1 .0)) × (now (s .1 .1 .0) ≡ now (t .1 .1 .0)) × (now (s .1 .1 .1 .0) ≡ now (t .1 .1 .1 .0)))
 read-batch κs a x y s t p q =
@@ -94,20 +77,12 @@ read-batch κs a x y s t p q =
     (e .0, e .1, p .rows .item-rows ∙ sym (q .rows .item-rows), p .rows .entry-rows ∙ sym (q .rows .entry-rows))
 
 pub write-body : OneAnswer 5 write-body-kinds.ps write-body-kinds.r write-body-reads.Post
-    (λ κs x y s t. (x ≡ y) × (now (s .1 .1 .1 .1 .1 .0) ≡ now (t .1 .1 .1 .1 .1 .0)) × (now (s .1 .1 .1 .1 .0) ≡ now (t .1 .1 .1 .1 .0)))
+    (λ κs x y s t. (x ≡ y) × (now (s .1 .1 .1 .1 .1 .1 .0) ≡ now (t .1 .1 .1 .1 .1 .1 .0)) × (now (s .1 .1 .1 .1 .1 .0) ≡ now (t .1 .1 .1 .1 .1 .0)))
 write-body κs a x y s t p q = let e = same (p .answer) (q .answer) in (e .0, e .1, p .written ∙ sym (q .written))
 
-pub write-body-unchecked : OneAnswer 5 write-body-unchecked-kinds.ps write-body-unchecked-kinds.r write-body-unchecked-reads.Post
-    (λ κs x y s t. (x ≡ y) × (now (s .1 .1 .1 .1 .1 .0) ≡ now (t .1 .1 .1 .1 .1 .0)) × (now (s .1 .1 .1 .1 .0) ≡ now (t .1 .1 .1 .1 .0)))
-write-body-unchecked κs a x y s t p q = let e = same (p .answer) (q .answer) in (e .0, e .1, p .written ∙ sym (q .written))
-
 pub write-batch : OneAnswer 6 write-batch-kinds.ps write-batch-kinds.r write-batch-reads.Post
-    (λ κs x y s t. (x ≡ y) × (now (s .1 .1 .1 .1 .1 .1 .0) ≡ now (t .1 .1 .1 .1 .1 .1 .0)) × (now (s .1 .1 .1 .1 .1 .0) ≡ now (t .1 .1 .1 .1 .1 .0)))
+    (λ κs x y s t. (x ≡ y) × (now (s .1 .1 .1 .1 .1 .1 .1 .0) ≡ now (t .1 .1 .1 .1 .1 .1 .1 .0)) × (now (s .1 .1 .1 .1 .1 .1 .0) ≡ now (t .1 .1 .1 .1 .1 .1 .0)))
 write-batch κs a x y s t p q = let e = same (p .answer) (q .answer) in (e .0, e .1, p .written ∙ sym (q .written))
-
-pub write-batch-unchecked : OneAnswer 6 write-batch-unchecked-kinds.ps write-batch-unchecked-kinds.r write-batch-unchecked-reads.Post
-    (λ κs x y s t. (x ≡ y) × (now (s .1 .1 .1 .1 .1 .1 .0) ≡ now (t .1 .1 .1 .1 .1 .1 .0)) × (now (s .1 .1 .1 .1 .1 .0) ≡ now (t .1 .1 .1 .1 .1 .0)))
-write-batch-unchecked κs a x y s t p q = let e = same (p .answer) (q .answer) in (e .0, e .1, p .written ∙ sym (q .written))
 
 pub rewrite : OneAnswer 3 rewrite-kinds.ps rewrite-kinds.r rewrite-reads.Post
     (λ κs x y s t. (x ≡ y) × (now (s .1 .1 .1 .1 .1 .1 .1 .0) ≡ now (t .1 .1 .1 .1 .1 .1 .1 .0)) × (now (s .0) ≡ now (t .0)))

@@ -1,8 +1,8 @@
 -- What is replied for the answers of a rewrite: a law for each way out of the code.
 -- Assumes nothing.
 use Prim.Native.Nat.{ℕ}
-use mathlib.Core.Path.{_≡_, refl, ap}
-use mathlib.Core.Bool.{Bool, true}
+use mathlib.Core.Path.{_≡_, ap}
+use mathlib.Core.Bool.{Bool, true, false}
 use mathlib.Core.List.{List}
 use Rattle.location_rules.specs.declared.Table.{Table}
 use Rattle.location_rules.specs.declared.Gate.{Gate}
@@ -10,8 +10,11 @@ use Rattle.location_rules.specs.declared.Rewritten.{Rewritten}
 use Rattle.location_rows.specs.Answers.{RowsRewritten}
 use Rattle.raft_log.specs.Locations.{gateOf, rewriteReply, RewriteReplied}
 
-pub gate-given : (given : Bool) {gate : ℕ} → given ≡ true → Gate.Given gate ≡ gateOf given gate
-gate-given given e = rw e refl
+pub gate-given : {given : Bool} {gate : ℕ} {g : Gate} → given ≡ true → g ≡ Gate.Given gate → g ≡ gateOf given gate
+gate-given e h = rw e h
+
+pub gate-none : {given : Bool} (gate : ℕ) {g : Gate} → given ≡ false → g ≡ Gate.None → g ≡ gateOf given gate
+gate-none gate e h = rw e h
 
 pub rewrite-replied : {words : List ℕ} {t : Table} {incoming : List ℕ} {first : ℕ} {gate g : Gate} {r : Rewritten} {later : List ℕ}
     → g ≡ gate → RowsRewritten words t incoming first g r later → RewriteReplied words t incoming first gate (rewriteReply r) later

@@ -25,6 +25,10 @@ told f e k = ap f (sym k ∙ e)
 pub marked : {s : StatusRead} {group m : ℕ} {mark : AtomicGroupStatus} → s ≡ Mark group mark → m ≡ markWord mark → reply 0 (m ∷ group ∷ []) ≡ statusReply s
 marked e h = rw (e, h)
 
+-- The word of a mark that is known.
+pub mark-word : {mark d : AtomicGroupStatus} {m : ℕ} → mark ≡ d → m ≡ markWord d → m ≡ markWord mark
+mark-word e h = rw e h
+
 -- ---- the block that a queue names
 
 module _ (queue long offset len : ℕ) (append rewrite : List ℕ) where

@@ -9,22 +9,21 @@ use Rattle.list_writer.specs.Answers.{laid}
 use Rattle.rows_writer.specs.Rows.{rowsBytes}
 use Rattle.log_batch.specs.Written.{framed}
 use Rattle.batch_rows.specs.Rows.{RowsWritten}
-use Rattle.item_row.specs.Reply.{Reply}
 use Rattle.raft_log.specs.RowsWritten.{writtenReply, bodyEncoded, BodyRowsWritten, BatchRowsWritten}
 
-module _ {checked : Bool} {items entries store : List ℕ} {signature : ℕ} {out later : List ℕ} {e : Encoded} {r : Reply} where
+module _ {checked : Bool} {items entries store : List ℕ} {signature : ℕ} {out later : List ℕ} {e : Encoded} where
   pub body-replied : (e ≡ bodyEncoded checked items entries store out) × (later ≡ laid e out 0 (rowsBytes store items entries signature))
-      → r ≡ writtenReply e → BodyRowsWritten checked items entries store signature out r later
-  body-replied p f =
+      → BodyRowsWritten checked items entries store signature out (writtenReply e) later
+  body-replied p =
       record {
-        answer = f ∙ ap writtenReply (p .0);
+        answer = ap writtenReply (p .0);
         written = p .1 ∙ ap (λ (x : Encoded). laid x out 0 (rowsBytes store items entries signature)) (p .0);
       }
 
-  pub batch-replied : {content : List ℕ} → RowsWritten checked items entries store content signature out e later → r ≡ writtenReply e
-      → BatchRowsWritten checked items entries store content signature out r later
-  batch-replied {content} w f =
+  pub batch-replied : {content : List ℕ} → RowsWritten checked items entries store content signature out e later
+      → BatchRowsWritten checked items entries store content signature out (writtenReply e) later
+  batch-replied {content} w =
       record {
-        answer = f ∙ ap writtenReply (w .answer);
+        answer = ap writtenReply (w .answer);
         written = w .written ∙ ap (λ (x : Encoded). laid x out 0 (framed content (rowsBytes store items entries signature))) (w .answer);
       }

@@ -9,25 +9,20 @@ pub use locations::raft_log_fetch;
 pub use locations::raft_log_rewrite;
 pub use reading::raft_log_read_batch;
 pub use reading::raft_log_read_body;
-pub use reading::raft_log_read_items;
 pub use writing::raft_log_write_batch;
-pub use writing::raft_log_write_batch_unchecked;
 pub use writing::raft_log_write_body;
-pub use writing::raft_log_write_body_unchecked;
 ghost use mathlib.Core.Path.{_≡_};
 ghost use Rattle.crc.specs.Crc.{crcOf};
 ghost use Rattle.numbers.specs.Number.{readNumber};
 ghost use Rattle.numbers.specs.Shortest.{shortest};
 ghost use Rattle.words.specs.Write.{wroteAt, placed};
-ghost use Rattle.field.specs.declared.Form.the-variants.{Any};
 ghost use Rattle.field.specs.Reading.{numberGot};
 ghost use Rattle.item_row.specs.Row.{itemOfRow};
-ghost use Rattle.body_check.specs.Reading.{readItems};
 ghost use Rattle.body_check.specs.Body.{readBody};
 ghost use Rattle.body_check.specs.Answers.{checkOf, plainBody};
 ghost use Rattle.log_batch.specs.Header.{header};
 ghost use Rattle.item_row.specs.Reply.{reply};
-ghost use Rattle.raft_log.specs.Answers.{numberReply, wroteReply, headerReply, checkReply, plainReply, queueCheck, viewOf, markWord, statusReply, rowStatus};
+ghost use Rattle.raft_log.specs.Answers.{numberReply, wroteReply, headerReply, checkReply, plainReply, queueCheck, viewOf, statusReply, rowStatus};
 use atomic_status::AtomicGroupStatus;
 use atomic_status::StatusRead;
 use body_check::BodyCheck;
@@ -116,15 +111,6 @@ pub extern "C" fn raft_log_check_body(body: &[u8], signature: u32, answer: &mut 
     ensures { λ r. ⌜ reply r (now (answer .exit)) ≡ checkReply (checkOf (readBody (now (body .entry)) signature)) ⌝ }
 {
     let r = body_check::check(body, signature);
-    put_check(r, answer)
-}
-
-// The same of a body without its footer.
-#[no_mangle]
-pub extern "C" fn raft_log_check_items(body: &[u8], answer: &mut [u64; 5]) -> u32
-    ensures { λ r. ⌜ reply r (now (answer .exit)) ≡ checkReply (checkOf (readItems Any (now (body .entry)))) ⌝ }
-{
-    let r = body_check::check_items(body);
     put_check(r, answer)
 }
 
@@ -222,7 +208,12 @@ fn put_status(status: StatusRead, answer: &mut [u64; 2]) -> u32
 {
     match status {
         StatusRead::Mark { id, status: mark } => {
-            *answer = [mark_of(mark), id];
+            let word = match mark {
+                AtomicGroupStatus::Begin => 1,
+                AtomicGroupStatus::Middle => 2,
+                AtomicGroupStatus::End => 3,
+            };
+            *answer = [word, id];
             refusal::NONE
         }
         StatusRead::NoMark => {
@@ -233,15 +224,5 @@ fn put_status(status: StatusRead, answer: &mut [u64; 2]) -> u32
             *answer = [0, 0];
             refusal.number
         }
-    }
-}
-
-fn mark_of(status: AtomicGroupStatus) -> u64
-    ensures { λ r. ⌜ r ≡ markWord status ⌝ }
-{
-    match status {
-        AtomicGroupStatus::Begin => 1,
-        AtomicGroupStatus::Middle => 2,
-        AtomicGroupStatus::End => 3,
     }
 }

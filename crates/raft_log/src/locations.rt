@@ -19,19 +19,14 @@ pub extern "C" fn raft_log_rewrite(
 ) -> u32
     ensures { λ r. ⌜ RewriteReplied (now (table .entry)) (tableFrom «first_index» rewritten) (now (incoming .entry)) «incoming_first» (gateOf «with_gate» gate) (reply r (now (answer .exit))) (now (table .exit)) ⌝ }
 {
-    let g = gate_of(with_gate, gate);
+    let g = if with_gate {
+        Gate::Given(gate)
+    } else {
+        Gate::None
+    };
     let r = location_rows::rewrite(table, first_index, rewritten, incoming, incoming_first, g);
     *answer = [r.replaced as u64, r.count as u64];
     r.number
-}
-
-fn gate_of(with_gate: bool, gate: u64) -> Gate
-    ensures { λ r. ⌜ r ≡ gateOf «with_gate» gate ⌝ }
-{
-    if with_gate {
-        return Gate::Given(gate);
-    }
-    Gate::None
 }
 
 // The longest run of rows from the rewritten count on whose file number is at most the gate.

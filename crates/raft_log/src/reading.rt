@@ -1,14 +1,11 @@
 // Bodies and batches, read into rows of words that the caller lends.
 ghost use mathlib.Core.Path.{_≡_};
-ghost use Rattle.field.specs.declared.Form.the-variants.{Any};
-ghost use Rattle.body_check.specs.Reading.{readItems};
 ghost use Rattle.body_check.specs.Body.{readBody};
 ghost use Rattle.item_row.specs.Reply.{reply};
 ghost use Rattle.raft_log.specs.RowsRead.{BodyRowsRead, batchReply, BatchRowsRead};
 use crate::put_check;
 use batch_rows::BatchCheck;
 use body_check::BodyCheck;
-use body_check::Wanted;
 
 // A body, read into rows.
 #[no_mangle]
@@ -22,20 +19,6 @@ pub extern "C" fn raft_log_read_body(
     ensures { λ r. ⌜ BodyRowsRead (readBody (now (body .entry)) signature) (now (items .entry)) (now (entries .entry)) (reply r (now (answer .exit))) (now (items .exit)) (now (entries .exit)) ⌝ }
 {
     let r = rows_reader::read_body(body, signature, items, entries);
-    put_check(r, answer)
-}
-
-// A body without its footer, read into rows.
-#[no_mangle]
-pub extern "C" fn raft_log_read_items(
-    body: &[u8],
-    items: &mut [u64],
-    entries: &mut [u64],
-    answer: &mut [u64; 5],
-) -> u32
-    ensures { λ r. ⌜ BodyRowsRead (readItems Any (now (body .entry))) (now (items .entry)) (now (entries .entry)) (reply r (now (answer .exit))) (now (items .exit)) (now (entries .exit)) ⌝ }
-{
-    let r = rows_reader::read_items(body, Wanted::Free, items, entries);
     put_check(r, answer)
 }
 
@@ -58,8 +41,6 @@ fn put_batch(batch: BatchCheck, answer: &mut [u64; 9]) -> u32
     ensures { λ r. ⌜ reply r (now (answer .exit)) ≡ batchReply (batch .check) (batch .body) (batch .block) ⌝ }
 {
     let check = batch.check;
-    let body = batch.body;
-    let block = batch.block;
     match check {
         BodyCheck::Accepted {
             items,
@@ -73,10 +54,10 @@ fn put_batch(batch: BatchCheck, answer: &mut [u64; 9]) -> u32
                 entries as u64,
                 total as u64,
                 next as u64,
-                body.at as u64,
-                body.len as u64,
-                block.at as u64,
-                block.len as u64,
+                batch.body.at as u64,
+                batch.body.len as u64,
+                batch.block.at as u64,
+                batch.block.len as u64,
             ];
             refusal::NONE
         }

@@ -1,43 +1,26 @@
 // Bodies and batches, written from rows of words that the caller lends.
-ghost use mathlib.Core.Path.{_≡_};
-ghost use mathlib.Core.Bool.{true, false};
 ghost use Rattle.item_row.specs.Reply.{reply};
-ghost use Rattle.raft_log.specs.RowsWritten.{writtenReply, BodyRowsWritten, BatchRowsWritten};
-use list_writer::Encoded;
+ghost use Rattle.raft_log.specs.RowsWritten.{BodyRowsWritten, BatchRowsWritten};
 
-// Writes a body.
+// Writes a body. Where `checked`, a put of an internal key is refused.
 #[no_mangle]
 pub extern "C" fn raft_log_write_body(
     items: &[u64],
     entries: &[u64],
     store: &[u8],
     signature: u32,
+    checked: bool,
     out: &mut [u8],
     answer: &mut [u64; 2],
 ) -> u32
-    ensures { λ r. ⌜ BodyRowsWritten true (now (items .entry)) (now (entries .entry)) (now (store .entry)) signature (now (out .entry)) (reply r (now (answer .exit))) (now (out .exit)) ⌝ }
+    ensures { λ r. ⌜ BodyRowsWritten checked (now (items .entry)) (now (entries .entry)) (now (store .entry)) signature (now (out .entry)) (reply r (now (answer .exit))) (now (out .exit)) ⌝ }
 {
-    let r = rows_writer::encode_rows(items, entries, store, signature, true, out, 0);
-    put_written(r, answer)
+    let r = rows_writer::encode_rows(items, entries, store, signature, checked, out, 0);
+    *answer = [r.item as u64, r.length as u64];
+    r.number
 }
 
-// The same with any key.
-#[no_mangle]
-pub extern "C" fn raft_log_write_body_unchecked(
-    items: &[u64],
-    entries: &[u64],
-    store: &[u8],
-    signature: u32,
-    out: &mut [u8],
-    answer: &mut [u64; 2],
-) -> u32
-    ensures { λ r. ⌜ BodyRowsWritten false (now (items .entry)) (now (entries .entry)) (now (store .entry)) signature (now (out .entry)) (reply r (now (answer .exit))) (now (out .exit)) ⌝ }
-{
-    let r = rows_writer::encode_rows(items, entries, store, signature, false, out, 0);
-    put_written(r, answer)
-}
-
-// Writes a whole batch.
+// The same for a whole batch.
 #[no_mangle]
 pub extern "C" fn raft_log_write_batch(
     items: &[u64],
@@ -45,35 +28,13 @@ pub extern "C" fn raft_log_write_batch(
     store: &[u8],
     content: &[u8],
     signature: u32,
+    checked: bool,
     out: &mut [u8],
     answer: &mut [u64; 2],
 ) -> u32
-    ensures { λ r. ⌜ BatchRowsWritten true (now (items .entry)) (now (entries .entry)) (now (store .entry)) (now (content .entry)) signature (now (out .entry)) (reply r (now (answer .exit))) (now (out .exit)) ⌝ }
+    ensures { λ r. ⌜ BatchRowsWritten checked (now (items .entry)) (now (entries .entry)) (now (store .entry)) (now (content .entry)) signature (now (out .entry)) (reply r (now (answer .exit))) (now (out .exit)) ⌝ }
 {
-    let r = batch_rows::write_rows(items, entries, store, content, signature, true, out);
-    put_written(r, answer)
-}
-
-// The same with any key.
-#[no_mangle]
-pub extern "C" fn raft_log_write_batch_unchecked(
-    items: &[u64],
-    entries: &[u64],
-    store: &[u8],
-    content: &[u8],
-    signature: u32,
-    out: &mut [u8],
-    answer: &mut [u64; 2],
-) -> u32
-    ensures { λ r. ⌜ BatchRowsWritten false (now (items .entry)) (now (entries .entry)) (now (store .entry)) (now (content .entry)) signature (now (out .entry)) (reply r (now (answer .exit))) (now (out .exit)) ⌝ }
-{
-    let r = batch_rows::write_rows(items, entries, store, content, signature, false, out);
-    put_written(r, answer)
-}
-
-fn put_written(written: Encoded, answer: &mut [u64; 2]) -> u32
-    ensures { λ r. ⌜ reply r (now (answer .exit)) ≡ writtenReply written ⌝ }
-{
-    *answer = [written.item as u64, written.length as u64];
-    written.number
+    let r = batch_rows::write_rows(items, entries, store, content, signature, checked, out);
+    *answer = [r.item as u64, r.length as u64];
+    r.number
 }

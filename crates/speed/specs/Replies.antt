@@ -1,14 +1,21 @@
--- What is returned for each answer of the stepping reader and of the reading into a table: a number, and the words of the answer.
+-- What is returned for each answer of the check, of the stepping reader and of the reading into a table: a number, and the words of the answer.
 -- Assumes nothing.
 use Prim.Native.Nat.{ℕ}
 use mathlib.Core.List.{[], _∷_}
 use Rattle.item_row.specs.Reply.{Reply, reply}
+use Rattle.body_check.specs.declared.BodyCheck.{BodyCheck}
+use Rattle.body_check.specs.declared.BodyCheck.the-variants as check
 use Rattle.item_batch.specs.declared.LogItemBatch.{LogItemBatch}
 use Rattle.item_reader.specs.declared.EntryRows.{EntryRows}
 use Rattle.item_reader.specs.declared.Next.{Next}
 use Rattle.item_reader.specs.declared.Next.the-variants as next
 use Rattle.item_reader.specs.declared.RowRead.{RowRead}
 use Rattle.item_reader.specs.declared.RowRead.the-variants as row
+
+-- item of a refusal, items, entries, entry total, place after the last item
+abbrev pub checkReply : BodyCheck → Reply
+checkReply (check.Accepted items entries total next) = reply 0 (0 ∷ items ∷ entries ∷ total ∷ next ∷ [])
+checkReply (check.Refused r) = reply (r .number) (r .item ∷ 0 ∷ 0 ∷ 0 ∷ 0 ∷ [])
 
 -- a number alone
 abbrev pub bare : ℕ → Reply

@@ -1,16 +1,20 @@
-// The stepping reader and the table by value on numbers and bytes: a static library for compare/bench alone.
+// The check without a checksum, the stepping reader and the table by value on numbers and bytes: a static library for compare/bench alone.
 //
 // Each function returns 0, a refusal's number or END, and sets `answer` at each call.
 ghost use mathlib.Core.Path.{_≡_};
 ghost use lib.ListN.{length};
 ghost use Rattle.seal.specs.Seal.{sealedPart};
+ghost use Rattle.field.specs.declared.Form.the-variants.{Any};
+ghost use Rattle.body_check.specs.Reading.{readItems};
 ghost use Rattle.body_check.specs.Body.{readBody};
+ghost use Rattle.body_check.specs.Answers.{checkOf};
 ghost use Rattle.item_row.specs.Reply.{reply};
 ghost use Rattle.item_batch.specs.Table.{tableOf};
 ghost use Rattle.item_reader.specs.Rows.{nextRow};
 ghost use Rattle.item_reader.specs.Reader.{opened, nthOf};
-ghost use Rattle.speed.specs.Replies.{rowsReply, nthReply, rowReply, tableReply};
+ghost use Rattle.speed.specs.Replies.{checkReply, rowsReply, nthReply, rowReply, tableReply};
 ghost use Rattle.speed.specs.Again.{WrittenAgain};
+use body_check::BodyCheck;
 use item_batch::LogItemBatch;
 use item_reader::EntryRows;
 use item_reader::Next;
@@ -18,6 +22,28 @@ use item_reader::RowRead;
 
 // Nothing is left; no refusal has this number.
 const END: u32 = 100;
+
+// What a body without its footer holds: the item of a refusal, items, entries, the entry total, and the place after the last item.
+#[no_mangle]
+pub extern "C" fn speed_check_items(body: &[u8], answer: &mut [u64; 5]) -> u32
+    ensures { λ r. ⌜ reply r (now (answer .exit)) ≡ checkReply (checkOf (readItems Any (now (body .entry)))) ⌝ }
+{
+    match body_check::check_items(body) {
+        BodyCheck::Accepted {
+            items,
+            entries,
+            total,
+            next,
+        } => {
+            *answer = [0, items as u64, entries as u64, total as u64, next as u64];
+            refusal::NONE
+        }
+        BodyCheck::Refused(refusal) => {
+            *answer = [refusal.item as u64, 0, 0, 0, 0];
+            refusal.number
+        }
+    }
+}
 
 // What call number k of a reader opened on the body answers: where the item's rows stand.
 #[no_mangle]

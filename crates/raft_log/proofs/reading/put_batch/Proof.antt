@@ -8,8 +8,8 @@ use Rattle.raft_log.proofs.reading.put_batch.Tie as tie
 enum-known-check : tie.Need-enum-known-check
 enum-known-check c = search needs
 
-cast-t14 : tie.Need-cast-t14
-cast-t14 c = search needs
+cast-t12 : tie.Need-cast-t12
+cast-t12 c = search needs
 
 enum-known-check-2 : tie.Need-enum-known-check-2
 enum-known-check-2 c = search needs
@@ -22,4 +22,4 @@ returns-2 c = batch-refused _ _ (c .before .before .check2 .given .1)
 
 pub put-batch-spec : {M : Type 1} → statement M
 put-batch-spec =
-    tie.close (tie.spec enum-known-check cast-t14 enum-known-check-2 returns returns-2)
+    tie.close (tie.spec enum-known-check cast-t12 enum-known-check-2 returns returns-2)

@@ -8,15 +8,12 @@ use Rattle.raft_log.proofs.writing.raft_log_write_batch.Tie as tie
 write-rows-requires : tie.Need-write-rows-requires
 write-rows-requires c κs = search needs
 
-put-written-requires : tie.Need-put-written-requires
-put-written-requires c κs = search needs
-
 same-length : tie.Need-same-length
 same-length c = search needs
 
 returns : tie.Need-returns
-returns c = batch-replied (c .before .before .before .before .write-rows .ensures) (c .put-written .ensures)
+returns c = batch-replied (c .before .before .before .write-rows .ensures)
 
 pub raft-log-write-batch-spec : {M : Type 1} → statement M
 raft-log-write-batch-spec =
-    tie.close (tie.spec write-rows-requires put-written-requires same-length returns)
+    tie.close (tie.spec write-rows-requires same-length returns)

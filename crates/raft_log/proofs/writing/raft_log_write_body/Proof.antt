@@ -8,15 +8,12 @@ use Rattle.raft_log.proofs.writing.raft_log_write_body.Tie as tie
 encode-rows-requires : tie.Need-encode-rows-requires
 encode-rows-requires c κs = search needs
 
-put-written-requires : tie.Need-put-written-requires
-put-written-requires c κs = search needs
-
 same-length : tie.Need-same-length
 same-length c = search needs
 
 returns : tie.Need-returns
-returns c = body-replied (c .before .before .before .before .encode-rows .ensures) (c .put-written .ensures)
+returns c = body-replied (c .before .before .before .encode-rows .ensures)
 
 pub raft-log-write-body-spec : {M : Type 1} → statement M
 raft-log-write-body-spec =
-    tie.close (tie.spec encode-rows-requires put-written-requires same-length returns)
+    tie.close (tie.spec encode-rows-requires same-length returns)
