@@ -2,7 +2,7 @@
 import struct
 
 from model import BLANK_ROW, Reader, Refused, Table, crc, fetch, little, next_row, read_batch, read_body, read_header, read_item
-from model import read_items, read_number, rewrite, spell, status, step, view, write_batch, write_body
+from model import read_items, read_number, rewrite, spell, status, step, view, write_batch, write_body, write_item
 
 
 def data(word):
@@ -186,6 +186,53 @@ def do_encode(name, *words):
     return out
 
 
+def piece_bytes(item, store):
+    """The content of an item by itself, up to its tails."""
+    if item[1] == "entries":
+        return spell(item[2]) + (spell(item[3]) if item[2] > 0 else b"")
+    t = Table()
+    t.items = [(0, *item[1:])]
+    return write_item(t, 0, store, False, 0, 0)[0][2:]
+
+
+def alone(at, total, lent, rows, first, second, b):
+    """What writing an item by itself gives, and then its content: each as bytes, or the refusal's number; and the total after it."""
+    at, total, lent, rows = [int(x, 16) for x in (at, total, lent, rows)]
+    b = data(b)
+    t = Table()
+    t.items = [read_item(Reader(b), Table())]
+    t.entries = [(0, 0, int(first, 16)), (0, 0, int(second, 16))][:rows]
+    t.entry_count = len(t.entries)
+
+    def fitting(write):
+        try:
+            got, after = write()
+            if at + len(got) > 32:
+                raise Refused(21)
+            return got, after
+        except Refused as why:
+            return why.number, 0
+
+    def whole():
+        got, _, after = write_item(t, 0, b[:lent], False, 0, total)
+        return got, after
+
+    return t, b[:lent], at, fitting(whole), fitting(lambda: (piece_bytes(t.items[0], b[:lent]), 0))
+
+
+def do_alone(name, *words):
+    _, _, at, *answers = alone(*words)
+    out = []
+    for start, (got, after) in zip(("alone", "piece"), answers):
+        buffer = b"\xaa" * 32
+        if isinstance(got, bytes):
+            buffer = buffer[:at] + got + buffer[at + len(got):]
+            out.append(line(start, name, 0, at + len(got), after, buffer.hex()))
+        else:
+            out.append(line(start, name, got, 0, 0, buffer.hex()))
+    return out
+
+
 def locations(word):
     """Rows of locations, as crates/vectors/src/locations.rt has them; a number that is missing is 0."""
     rows = [] if word == "-" else [(row.split(",") + ["0"] * 5)[:6] for row in word.split(";")]
@@ -264,5 +311,5 @@ def do_tail(name, *words):
 DO = {
     "crc": do_crc, "number": do_number, "read": do_read, "big": do_big, "little": do_little, "header": do_header, "items": do_items,
     "footed": do_footed, "plain": do_plain, "whole": do_whole, "view": do_view, "status": do_status, "encode": do_encode,
-    "memtable": do_memtable, "open": do_open, "tail": do_tail,
+    "alone": do_alone, "memtable": do_memtable, "open": do_open, "tail": do_tail,
 }

@@ -17,11 +17,15 @@
 //                                                                 the table of a body without footer, edited (edits.rt), then written by
 //                                                                 the writer of a body or a whole batch, keys checked or unchecked, into
 //                                                                 so much room, and read back under the other signature
+//     alone NAME AT TOTAL LENT ROWS LENGTH LENGTH BYTES           an item, of whose bytes so many are lent as the store, written at a place
+//                                                                 of 32 bytes, with the total before it and one of the two lengths or
+//                                                                 both; and then its content by itself
 //     memtable NAME FIRST COUNT ROWS CALLS                        a table of locations (locations.rt), and calls on it, each on what the
 //                                                                 one before it left: rewrite GATE FIRST ROWS, the gate `-` for none,
 //                                                                 and fetch GATE
 //     open NAME SIGNATURE CALLS BYTES                             a body with its footer, stepped through by so many calls
 //     tail NAME AT TOTAL INDEX LEFT BYTES                         the next row of an item of such a body, from that place on
+use crate::alone;
 use crate::bodies;
 use crate::headers;
 use crate::input;
@@ -54,6 +58,7 @@ fn lines(text: &[u8]) {
 
 fn line(line: &[u8]) {
     match input::kind(line) {
+        b'a' => alone::case(line),
         b'c' => sums::case(line),
         b'n' => number::number(line),
         b'r' => number::bytes(line),
