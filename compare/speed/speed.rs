@@ -167,9 +167,9 @@ fn body_checked(race: &mut Race, name: &'static str, data: &[u8]) {
     race.run("body checked without a table", name, "LogItemBatch::decode", goal(name, 2.0), check, rust);
     let items = &data[..data.len() - 4];
     let check = || {
-        let mut answer = [0; 5];
+        let mut answer = [0];
         assert_eq!(values::check_items(black_box(items), &mut answer), 0);
-        answer[1]
+        answer[0]
     };
     let rust = || Engine::decode_items(black_box(items)) as u64;
     assert_eq!(check(), rust());

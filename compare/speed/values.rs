@@ -2,7 +2,7 @@
 //! this program alone.
 
 extern "C" {
-    fn speed_check_items(body: *const u8, body_len: usize, answer: *mut [u64; 5]) -> u32;
+    fn speed_check_items(body: *const u8, body_len: usize, answer: *mut [u64; 1]) -> u32;
     fn speed_nth(body: *const u8, body_len: usize, signature: u32, k: usize, answer: *mut [u64; 4]) -> u32;
     fn speed_row(body: *const u8, body_len: usize, at: usize, total: u32, index: u64, left: usize, answer: *mut [u64; 4]) -> u32;
     fn speed_table(body: *const u8, body_len: usize, signature: u32, answer: *mut [u64; 4]) -> u32;
@@ -15,8 +15,8 @@ pub const END: u32 = 100;
 /// Where rows stand that are still to be read: place, total, first index, how many.
 pub type Rows = [u64; 4];
 
-/// Item (of a refusal), items, entries, entry total, place after the last item, of a body without its footer.
-pub fn check_items(body: &[u8], answer: &mut [u64; 5]) -> u32 {
+/// How many items a body without its footer has.
+pub fn check_items(body: &[u8], answer: &mut [u64; 1]) -> u32 {
     unsafe { speed_check_items(body.as_ptr(), body.len(), answer) }
 }
 

@@ -12,10 +12,10 @@ use Rattle.item_reader.specs.declared.Next.the-variants as next
 use Rattle.item_reader.specs.declared.RowRead.{RowRead}
 use Rattle.item_reader.specs.declared.RowRead.the-variants as row
 
--- item of a refusal, items, entries, entry total, place after the last item
-abbrev pub checkReply : BodyCheck → Reply
-checkReply (check.Accepted items entries total next) = reply 0 (0 ∷ items ∷ entries ∷ total ∷ next ∷ [])
-checkReply (check.Refused r) = reply (r .number) (r .item ∷ 0 ∷ 0 ∷ 0 ∷ 0 ∷ [])
+-- how many items
+abbrev pub countReply : BodyCheck → Reply
+countReply (check.Accepted items entries total next) = reply 0 (items ∷ [])
+countReply (check.Refused r) = reply (r .number) (0 ∷ [])
 
 -- a number alone
 abbrev pub bare : ℕ → Reply

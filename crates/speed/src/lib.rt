@@ -12,7 +12,7 @@ ghost use Rattle.item_row.specs.Reply.{reply};
 ghost use Rattle.item_batch.specs.Table.{tableOf};
 ghost use Rattle.item_reader.specs.Rows.{nextRow};
 ghost use Rattle.item_reader.specs.Reader.{opened, nthOf};
-ghost use Rattle.speed.specs.Replies.{checkReply, rowsReply, nthReply, rowReply, tableReply};
+ghost use Rattle.speed.specs.Replies.{countReply, rowsReply, nthReply, rowReply, tableReply};
 ghost use Rattle.speed.specs.Again.{WrittenAgain};
 use body_check::BodyCheck;
 use item_batch::LogItemBatch;
@@ -23,23 +23,23 @@ use item_reader::RowRead;
 // Nothing is left; no refusal has this number.
 const END: u32 = 100;
 
-// What a body without its footer holds: the item of a refusal, items, entries, the entry total, and the place after the last item.
+// How many items a body without its footer has.
 #[no_mangle]
-pub extern "C" fn speed_check_items(body: &[u8], answer: &mut [u64; 5]) -> u32
-    ensures { λ r. ⌜ reply r (now (answer .exit)) ≡ checkReply (checkOf (readItems Any (now (body .entry)))) ⌝ }
+pub extern "C" fn speed_check_items(body: &[u8], answer: &mut [u64; 1]) -> u32
+    ensures { λ r. ⌜ reply r (now (answer .exit)) ≡ countReply (checkOf (readItems Any (now (body .entry)))) ⌝ }
 {
     match body_check::check_items(body) {
         BodyCheck::Accepted {
             items,
-            entries,
-            total,
-            next,
+            entries: _,
+            total: _,
+            next: _,
         } => {
-            *answer = [0, items as u64, entries as u64, total as u64, next as u64];
+            *answer = [items as u64];
             refusal::NONE
         }
         BodyCheck::Refused(refusal) => {
-            *answer = [refusal.item as u64, 0, 0, 0, 0];
+            *answer = [0];
             refusal.number
         }
     }
