@@ -60,6 +60,19 @@ pub one-byte : (n : ℕ) (out : List ℕ) (at : ℕ) → n < 128 → at < length
 unfolding shortest
 one-byte n out at t h = rw (spell-one 9 n t) (room-for out at (n ∷ []) (set out at n) (at + 1) (omega arith) (refl, refl))
 
+-- ---- a number of two bytes
+
+module _ (n : ℕ) (out : List ℕ) (at : ℕ) (many : 128 ≤ n) (few : n < 16384) where
+  both : (set (set out at (128 + n % 128)) (at + 1) (n / 128) ≡ sets out at (shortest n)) × (at + 1 + 1 ≡ at + length (shortest n))
+  both = writes-last (writes-more (writes-start n out at (omega arith)) many) (omega arith)
+
+  pub two-short : length out < at + 2 → (NoRoom ≡ wroteAt out at (shortest n)) × (out ≡ placed out at (shortest n))
+  two-short h = no-room out at (shortest n) (omega (arith, both .1))
+
+  pub two-bytes : at + 2 ≤ length out
+      → (Next (at + 2) ≡ wroteAt out at (shortest n)) × (set (set out at (128 + n % 128)) (at + 1) (n / 128) ≡ placed out at (shortest n))
+  two-bytes h = room-for out at (shortest n) _ (at + 2) (omega (arith, both .1)) (both .0, omega (arith, both .1))
+
 -- ---- the loop over nine bytes
 
 pub writes-begin : (n : ℕ) (out : List ℕ) (at : ℕ) → n < 2 ^ 64 → Writes n out at out n (at + 0)

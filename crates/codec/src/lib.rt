@@ -16,6 +16,7 @@ pub use words::encode_u64;
 pub use words::least;
 pub use words::write_bytes;
 ghost use mathlib.Core.Path.{_≡_};
+ghost use Prim.Native.Nat.{_<_};
 ghost use Rattle.numbers.specs.Shortest.{shortest};
 ghost use Rattle.words.specs.Write.{wroteAt, nextAt, placed};
 
@@ -57,12 +58,12 @@ fn encode_long(n: u64, out: &mut [u8], at: usize) -> Wrote
     Wrote::Next(i + 1)
 }
 
-// The same, quicker for three bytes and more and too large to be put in line at many places: the loop over nine bytes is unrolled.
+// The same, quicker for two bytes and more and too large to be put in line at many places: the loop over nine bytes is unrolled.
 pub fn encode_var_u64_unrolled(n: u64, out: &mut [u8], at: usize) -> Wrote
     ensures { λ r. ⌜ (r ≡ wroteAt (now (out .entry)) at (shortest n)) × (now (out .exit) ≡ placed (now (out .entry)) at (shortest n)) ⌝ }
 {
     if n < 16384 {
-        return encode_var_u64(n, out, at);
+        return encode_short(n, out, at);
     }
     if out.len() < at {
         return Wrote::NoRoom;
@@ -84,6 +85,25 @@ pub fn encode_var_u64_unrolled(n: u64, out: &mut [u8], at: usize) -> Wrote
     }
     out[at + 9] = left as u8;
     Wrote::Next(at + 10)
+}
+
+// A number of one byte or two.
+fn encode_short(n: u64, out: &mut [u8], at: usize) -> Wrote
+    requires { ⌜ n < 16384 ⌝ }
+    ensures { λ r. ⌜ (r ≡ wroteAt (now (out .entry)) at (shortest n)) × (now (out .exit) ≡ placed (now (out .entry)) at (shortest n)) ⌝ }
+{
+    if n < 128 {
+        return encode_var_u64(n, out, at);
+    }
+    if out.len() < at {
+        return Wrote::NoRoom;
+    }
+    if out.len() - at < 2 {
+        return Wrote::NoRoom;
+    }
+    out[at] = (128 + n % 128) as u8;
+    out[at + 1] = (n / 128) as u8;
+    Wrote::Next(at + 2)
 }
 
 // Writes the shortest spelling of n and answers the place after it, or the place itself where it does not fit.

@@ -18,8 +18,8 @@ Inv-loop n out₀ at room left₀ j₀ out left j = (at + 10 ≤ length out₀) 
 abbrev μ-loop : tie.MeasureT-loop
 μ-loop n out₀ at room left₀ j₀ out left j = 9 - j
 
-encode-var-u64-requires : tie.Need-encode-var-u64-requires Inv-loop μ-loop
-encode-var-u64-requires c κs = search needs
+encode-short-requires : tie.Need-encode-short-requires Inv-loop μ-loop
+encode-short-requires c κs = search needs
 
 same-length : tie.Need-same-length Inv-loop μ-loop
 same-length c = search needs
@@ -35,8 +35,8 @@ returns-2 c =
 sub-room : tie.Need-sub-room Inv-loop μ-loop
 sub-room c = search needs
 
-encode-var-u64-requires-2 : tie.Need-encode-var-u64-requires-2 Inv-loop μ-loop
-encode-var-u64-requires-2 c κs = search needs
+encode-var-u64-requires : tie.Need-encode-var-u64-requires Inv-loop μ-loop
+encode-var-u64-requires c κs = search needs
 
 same-length-2 : tie.Need-same-length-2 Inv-loop μ-loop
 same-length-2 c = search needs
@@ -133,12 +133,12 @@ encode-var-u64-unrolled-spec =
     (tie.spec
     Inv-loop
     μ-loop
-    encode-var-u64-requires
+    encode-short-requires
     same-length
     returns
     returns-2
     sub-room
-    encode-var-u64-requires-2
+    encode-var-u64-requires
     same-length-2
     returns-3
     loop-holds
