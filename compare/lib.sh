@@ -31,11 +31,13 @@ build_library() {
     (cd "$root" && rt staticlib "$1") || fail "the library $1 is not proved, so it was not built"
 }
 
-# Sets speed to the folder of libspeed.a. To be called before find_library, which may set RAFT_LOG_LIB.
+# Sets speed to the folder of libspeed.a and libspeed_tables.a. To be called before find_library, which may set RAFT_LOG_LIB.
 find_speed() {
-    [ -n "${RAFT_LOG_LIB:-}" ] || build_library speed
     speed=${RAFT_LOG_LIB:-$root/target/staticlib}
-    [ -f "$speed/libspeed.a" ] || fail "missing: $speed/libspeed.a"
+    for name in speed speed_tables; do
+        [ -n "${RAFT_LOG_LIB:-}" ] || build_library "$name"
+        [ -f "$speed/lib$name.a" ] || fail "missing: $speed/lib$name.a"
+    done
 }
 
 # Sets RAFT_LOG_LIB to the folder of libraft_log.a, in which every function of raft_log.h is found: one that the library does not have is a

@@ -1,5 +1,5 @@
-//! The functions of libspeed.a, over slices: the check without a checksum, the stepping reader, and the table by value. The library is for
-//! this program alone.
+//! The functions of libspeed.a and libspeed_tables.a, over slices: the check without a checksum, the stepping reader, and the table by value.
+//! The two libraries are for this program alone.
 
 extern "C" {
     fn speed_check_items(body: *const u8, body_len: usize, answer: *mut [u64; 1]) -> u32;

@@ -1,7 +1,7 @@
--- No second answer: two results, and two later contents of what is lent, that meet one contract are equal.
+-- No second answer: two results, and two later contents of the answer lent, that meet one contract are equal.
 -- Assumes nothing.
 use Prim.Native.Nat.{ℕ}
-use mathlib.Core.Path.{_≡_, sym, _∙_}
+use mathlib.Core.Path.{_≡_}
 use mathlib.Core.List.{List}
 use denote.Ref.{now}
 use Rattle.one_answer.specs.OneAnswer.{OneAnswer}
@@ -12,10 +12,6 @@ use Rattle.speed.proofs.speed_nth.Kinds as nth-kinds
 use Rattle.speed.proofs.speed_nth.Reads as nth-reads
 use Rattle.speed.proofs.speed_row.Kinds as row-kinds
 use Rattle.speed.proofs.speed_row.Reads as row-reads
-use Rattle.speed.proofs.speed_table.Kinds as table-kinds
-use Rattle.speed.proofs.speed_table.Reads as table-reads
-use Rattle.speed.proofs.speed_write.Kinds as write-kinds
-use Rattle.speed.proofs.speed_write.Reads as write-reads
 
 -- A reply has one number and one list of words.
 same : {m n : ℕ} {v w : List ℕ} {a : Reply} → reply m v ≡ a → reply n w ≡ a → (m ≡ n) × (v ≡ w)
@@ -29,10 +25,3 @@ nth κs a x y s t p q = same p q
 
 pub row : OneAnswer 2 row-kinds.ps row-kinds.r row-reads.Post (λ κs x y s t. (x ≡ y) × (now (s .1 .1 .1 .1 .1 .0) ≡ now (t .1 .1 .1 .1 .1 .0)))
 row κs a x y s t p q = same p q
-
-pub table : OneAnswer 2 table-kinds.ps table-kinds.r table-reads.Post (λ κs x y s t. (x ≡ y) × (now (s .1 .1 .0) ≡ now (t .1 .1 .0)))
-table κs a x y s t p q = same p q
-
-pub write : OneAnswer 3 write-kinds.ps write-kinds.r write-reads.Post
-    (λ κs x y s t. (x ≡ y) × (now (s .1 .1 .1 .0) ≡ now (t .1 .1 .1 .0)) × (now (s .1 .1 .0) ≡ now (t .1 .1 .0)))
-write κs a x y s t p q = let e = same (p .answer) (q .answer) in (e .0, e .1, p .written ∙ sym (q .written))

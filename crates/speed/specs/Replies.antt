@@ -1,11 +1,10 @@
--- What is returned for each answer of the check, of the stepping reader and of the reading into a table: a number, and the words of the answer.
+-- What is returned for each answer of the check and of the stepping reader: a number, and the words of the answer.
 -- Assumes nothing.
 use Prim.Native.Nat.{ℕ}
 use mathlib.Core.List.{[], _∷_}
 use Rattle.item_row.specs.Reply.{Reply, reply}
 use Rattle.body_check.specs.declared.BodyCheck.{BodyCheck}
 use Rattle.body_check.specs.declared.BodyCheck.the-variants as check
-use Rattle.item_batch.specs.declared.LogItemBatch.{LogItemBatch}
 use Rattle.item_reader.specs.declared.EntryRows.{EntryRows}
 use Rattle.item_reader.specs.declared.Next.{Next}
 use Rattle.item_reader.specs.declared.Next.the-variants as next
@@ -36,7 +35,3 @@ abbrev pub rowReply : RowRead → Reply
 rowReply (row.Row x rest) = rowsReply rest
 rowReply row.End = bare 100
 rowReply (row.Refused number) = bare number
-
--- the table's refusal, or 0, and items, entries, entry total, place after the last item
-abbrev pub tableReply : LogItemBatch → Reply
-tableReply t = reply (t .refusal .number) (t .«item_count» ∷ t .«entry_count» ∷ t .total ∷ t .next ∷ [])

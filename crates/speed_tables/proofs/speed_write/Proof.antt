@@ -1,9 +1,9 @@
--- `speed::speed_write` meets its contract.
+-- `speed_tables::speed_write` meets its contract.
 -- Assumes nothing.
-use Rattle.speed.proofs.Laws.{rewrite-refused, rewrite-done}
+use Rattle.speed_tables.proofs.Laws.{rewrite-refused, rewrite-done}
 use borrow.Author.Needs.{needs}
-use Rattle.speed.proofs.speed_write.Statement.{statement}
-use Rattle.speed.proofs.speed_write.Tie as tie
+use Rattle.speed_tables.proofs.speed_write.Statement.{statement}
+use Rattle.speed_tables.proofs.speed_write.Tie as tie
 
 decode-requires : tie.Need-decode-requires
 decode-requires c κs = search needs

@@ -1,4 +1,4 @@
--- What writing a body again from the table that it was read into answers, and what it leaves in the buffer.
+-- What reading a body into a table answers, and what writing it again from that table answers and leaves in the buffer.
 -- Assumes nothing.
 use Prim.Native.Nat.{ℕ, zero, suc}
 use mathlib.Core.Path.{_≡_}
@@ -11,6 +11,10 @@ use Rattle.list_writer.specs.Answers.{encoded, encodedOf, laid}
 use Rattle.item_batch.specs.declared.LogItemBatch.{LogItemBatch}
 use Rattle.item_batch.specs.Writing.{listed, tableLengths}
 use Rattle.item_row.specs.Reply.{Reply, reply}
+
+-- the table's refusal, or 0, and items, entries, entry total, place after the last item
+abbrev pub tableReply : LogItemBatch → Reply
+tableReply t = reply (t .refusal .number) (t .«item_count» ∷ t .«entry_count» ∷ t .total ∷ t .next ∷ [])
 
 -- where the reading is refused, its refusal and no length
 abbrev pub encodedUnless : ℕ → Encoded → Encoded

@@ -1,10 +1,10 @@
--- `speed::speed_table` meets its contract.
+-- `speed_tables::speed_table` meets its contract.
 -- Assumes nothing.
 use mathlib.Core.Path.{ap}
-use Rattle.speed.specs.Replies.{tableReply}
+use Rattle.speed_tables.specs.Again.{tableReply}
 use borrow.Author.Needs.{needs}
-use Rattle.speed.proofs.speed_table.Statement.{statement}
-use Rattle.speed.proofs.speed_table.Tie as tie
+use Rattle.speed_tables.proofs.speed_table.Statement.{statement}
+use Rattle.speed_tables.proofs.speed_table.Tie as tie
 
 decode-requires : tie.Need-decode-requires
 decode-requires c κs = search needs

@@ -1,0 +1,47 @@
+// The table by value on numbers and bytes: a static library for compare/bench alone, apart from the stepping reader, as a program has it
+// that uses one of the two.
+//
+// Each function returns 0 or a refusal's number, and sets `answer` at each call.
+ghost use mathlib.Core.Path.{_≡_};
+ghost use lib.ListN.{length};
+ghost use Rattle.body_check.specs.Body.{readBody};
+ghost use Rattle.item_row.specs.Reply.{reply};
+ghost use Rattle.item_batch.specs.Table.{tableOf};
+ghost use Rattle.speed_tables.specs.Again.{tableReply, WrittenAgain};
+use item_batch::LogItemBatch;
+
+// A body, read into a table by value: its items, its entries, the entry total, and the place after the last item.
+#[no_mangle]
+pub extern "C" fn speed_table(body: &[u8], signature: u32, answer: &mut [u64; 4]) -> u32
+    ensures { λ r. ⌜ reply r (now (answer .exit)) ≡ tableReply (tableOf (record { at = 0; len = length (now (body .entry)) }) (record { at = 0; len = 0 }) (readBody (now (body .entry)) signature)) ⌝ }
+{
+    let t = LogItemBatch::decode(body, signature);
+    *answer = [
+        t.item_count as u64,
+        t.entry_count as u64,
+        t.total as u64,
+        t.next as u64,
+    ];
+    t.refusal.number
+}
+
+// A body, read into a table by value and written from it again under the same signature: its length.
+#[no_mangle]
+pub extern "C" fn speed_write(
+    body: &[u8],
+    signature: u32,
+    out: &mut [u8],
+    answer: &mut [u64; 1],
+) -> u32
+    ensures { λ r. ⌜ WrittenAgain (tableOf (record { at = 0; len = length (now (body .entry)) }) (record { at = 0; len = 0 }) (readBody (now (body .entry)) signature)) (now (body .entry)) signature (now (out .entry)) (reply r (now (answer .exit))) (now (out .exit)) ⌝ }
+{
+    let t = LogItemBatch::decode(body, signature);
+    let number = t.refusal.number;
+    if number != refusal::NONE {
+        *answer = [0];
+        return number;
+    }
+    let e = LogItemBatch::encode_unchecked(t, body, signature, out);
+    *answer = [e.length as u64];
+    e.number
+}
