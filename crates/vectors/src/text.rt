@@ -26,8 +26,13 @@ pub(crate) fn hex(bytes: &[u8]) {
     io::write_all(STDOUT_FILENO, b" ");
     let mut i = 0;
     while i < bytes.len() {
-        one_byte(bytes[i]);
-        i += 1;
+        if bytes.len() - i < 4 {
+            one_byte(bytes[i]);
+            i += 1;
+        } else {
+            four_bytes(bytes[i], bytes[i + 1], bytes[i + 2], bytes[i + 3]);
+            i += 4;
+        }
     }
 }
 
@@ -42,6 +47,21 @@ pub(crate) fn bytes(bytes: &[u8]) {
 
 fn one_byte(b: u8) {
     let digits = [digit(b / 16), digit(b % 16)];
+    io::write_all(STDOUT_FILENO, &digits);
+}
+
+// The same of four at once, for the steps that writing takes.
+fn four_bytes(a: u8, b: u8, c: u8, d: u8) {
+    let digits = [
+        digit(a / 16),
+        digit(a % 16),
+        digit(b / 16),
+        digit(b % 16),
+        digit(c / 16),
+        digit(c % 16),
+        digit(d / 16),
+        digit(d % 16),
+    ];
     io::write_all(STDOUT_FILENO, &digits);
 }
 

@@ -21,6 +21,9 @@ write-all-requires c κs = search needs
 loop-holds : tie.Need-loop-holds Inv-loop μ-loop
 loop-holds c = search needs
 
+sub-if1 : tie.Need-sub-if1 Inv-loop μ-loop
+sub-if1 c = search needs
+
 shared-slice-read-one-byte : tie.Need-shared-slice-read-one-byte Inv-loop μ-loop
 shared-slice-read-one-byte c = search needs
 
@@ -36,6 +39,39 @@ loop-less c = search needs
 loop-again : tie.Need-loop-again Inv-loop μ-loop
 loop-again c = search needs
 
+shared-slice-read-four-bytes : tie.Need-shared-slice-read-four-bytes Inv-loop μ-loop
+shared-slice-read-four-bytes c = search needs
+
+add-four-bytes : tie.Need-add-four-bytes Inv-loop μ-loop
+add-four-bytes c = search needs
+
+shared-slice-read-four-bytes-2 : tie.Need-shared-slice-read-four-bytes-2 Inv-loop μ-loop
+shared-slice-read-four-bytes-2 c = search needs
+
+add-four-bytes-2 : tie.Need-add-four-bytes-2 Inv-loop μ-loop
+add-four-bytes-2 c = search needs
+
+shared-slice-read-four-bytes-3 : tie.Need-shared-slice-read-four-bytes-3 Inv-loop μ-loop
+shared-slice-read-four-bytes-3 c = search needs
+
+add-four-bytes-3 : tie.Need-add-four-bytes-3 Inv-loop μ-loop
+add-four-bytes-3 c = search needs
+
+shared-slice-read-four-bytes-4 : tie.Need-shared-slice-read-four-bytes-4 Inv-loop μ-loop
+shared-slice-read-four-bytes-4 c = search needs
+
+four-bytes-requires : tie.Need-four-bytes-requires Inv-loop μ-loop
+four-bytes-requires c κs = search needs
+
+add-i-2 : tie.Need-add-i-2 Inv-loop μ-loop
+add-i-2 c = search needs
+
+loop-less-2 : tie.Need-loop-less-2 Inv-loop μ-loop
+loop-less-2 c = search needs
+
+loop-again-2 : tie.Need-loop-again-2 Inv-loop μ-loop
+loop-again-2 c = search needs
+
 returns : tie.Need-returns Inv-loop μ-loop
 returns c = search needs
 
@@ -48,9 +84,21 @@ hex-spec =
     slice-aggregate-write-all
     write-all-requires
     loop-holds
+    sub-if1
     shared-slice-read-one-byte
     one-byte-requires
     add-i
     loop-less
     loop-again
+    shared-slice-read-four-bytes
+    add-four-bytes
+    shared-slice-read-four-bytes-2
+    add-four-bytes-2
+    shared-slice-read-four-bytes-3
+    add-four-bytes-3
+    shared-slice-read-four-bytes-4
+    four-bytes-requires
+    add-i-2
+    loop-less-2
+    loop-again-2
     returns)
