@@ -1,4 +1,5 @@
 pub mod Rows
 pub mod Words
 pub mod Again
+pub mod Replies
 pub mod Determined

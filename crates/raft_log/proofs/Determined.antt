@@ -1,11 +1,9 @@
 -- No second answer: two results, and two later contents of what is lent, that meet one contract are equal.
 -- Assumes nothing.
-use Prim.Native.Nat.{ℕ}
 use mathlib.Core.Path.{_≡_, sym, _∙_}
-use mathlib.Core.List.{List}
 use denote.Ref.{now}
 use Rattle.one_answer.specs.OneAnswer.{OneAnswer}
-use Rattle.item_row.specs.Reply.{Reply, reply}
+use Rattle.item_row.proofs.Replies.{same}
 use Rattle.raft_log.proofs.raft_log_crc32.Kinds as crc32-kinds
 use Rattle.raft_log.proofs.raft_log_crc32.Reads as crc32-reads
 use Rattle.raft_log.proofs.raft_log_read_number.Kinds as read-number-kinds
@@ -34,10 +32,6 @@ use Rattle.raft_log.proofs.locations.raft_log_rewrite.Kinds as rewrite-
 use Rattle.raft_log.proofs.locations.raft_log_rewrite.Reads as rewrite-reads
 use Rattle.raft_log.proofs.locations.raft_log_fetch.Kinds as fetch-kinds
 use Rattle.raft_log.proofs.locations.raft_log_fetch.Reads as fetch-reads
-
--- A reply has one number and one list of words.
-same : {m n : ℕ} {v w : List ℕ} {a : Reply} → reply m v ≡ a → reply n w ≡ a → (m ≡ n) × (v ≡ w)
-same e h = (cc, cc)
 
 pub crc32 : OneAnswer 1 crc32-kinds.ps crc32-kinds.r crc32-reads.Post (λ κs x y s t. x ≡ y)
 crc32 κs a x y s t p q = p ∙ sym q

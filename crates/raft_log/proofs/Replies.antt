@@ -17,10 +17,6 @@ use Rattle.entry_view.specs.View.{entryCheck}
 use Rattle.item_row.specs.Reply.{Reply, reply}
 use Rattle.raft_log.specs.Answers.{queueCheck, viewReply, viewOf, markWord, statusReply, rowStatus}
 
--- A call's result r, promised to be m and known to be d, is replied as m is.
-pub told : {R : Type 0} (f : R → Reply) {r d m : R} → r ≡ m → r ≡ d → f d ≡ f m
-told f e k = ap f (sym k ∙ e)
-
 -- A mark and its group are replied.
 pub marked : {s : StatusRead} {group m : ℕ} {mark : AtomicGroupStatus} → s ≡ Mark group mark → m ≡ markWord mark → reply 0 (m ∷ group ∷ []) ≡ statusReply s
 marked e h = rw (e, h)

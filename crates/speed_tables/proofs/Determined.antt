@@ -1,19 +1,13 @@
 -- No second answer: two results, and two later contents of what is lent, that meet one contract are equal.
 -- Assumes nothing.
-use Prim.Native.Nat.{ℕ}
 use mathlib.Core.Path.{_≡_, sym, _∙_}
-use mathlib.Core.List.{List}
 use denote.Ref.{now}
 use Rattle.one_answer.specs.OneAnswer.{OneAnswer}
-use Rattle.item_row.specs.Reply.{Reply, reply}
+use Rattle.item_row.proofs.Replies.{same}
 use Rattle.speed_tables.proofs.speed_table.Kinds as table-kinds
 use Rattle.speed_tables.proofs.speed_table.Reads as table-reads
 use Rattle.speed_tables.proofs.speed_write.Kinds as write-kinds
 use Rattle.speed_tables.proofs.speed_write.Reads as write-reads
-
--- A reply has one number and one list of words.
-same : {m n : ℕ} {v w : List ℕ} {a : Reply} → reply m v ≡ a → reply n w ≡ a → (m ≡ n) × (v ≡ w)
-same e h = (cc, cc)
 
 pub speed-table : OneAnswer 2 table-kinds.ps table-kinds.r table-reads.Post (λ κs x y s t. (x ≡ y) × (now (s .1 .1 .0) ≡ now (t .1 .1 .0)))
 speed-table κs a x y s t p q = same p q

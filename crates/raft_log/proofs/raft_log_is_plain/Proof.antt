@@ -1,7 +1,7 @@
 -- `raft_log::raft_log_is_plain` meets its contract.
 -- Assumes nothing.
 use Rattle.raft_log.specs.Answers.{plainReply}
-use Rattle.raft_log.proofs.Replies.{told}
+use Rattle.item_row.proofs.Replies.{told}
 use borrow.Author.Needs.{needs}
 use Rattle.raft_log.proofs.raft_log_is_plain.Statement.{statement}
 use Rattle.raft_log.proofs.raft_log_is_plain.Tie as tie

@@ -4,7 +4,7 @@ use Rattle.numbers.specs.declared.NumberRead.{NumberRead}
 use Rattle.field.specs.Reading.{numberGot}
 use Rattle.raft_log.specs.Answers.{numberReply}
 use Rattle.item_row.specs.Reply.{Reply}
-use Rattle.raft_log.proofs.Replies.{told}
+use Rattle.item_row.proofs.Replies.{told}
 use borrow.Author.Needs.{needs}
 use Rattle.raft_log.proofs.raft_log_read_number.Statement.{statement}
 use Rattle.raft_log.proofs.raft_log_read_number.Tie as tie

@@ -1,7 +1,7 @@
 -- `raft_log::raft_log_write_number` meets its contract.
 -- Assumes nothing.
 use Rattle.raft_log.specs.Answers.{wroteReply}
-use Rattle.raft_log.proofs.Replies.{told}
+use Rattle.item_row.proofs.Replies.{told}
 use borrow.Author.Needs.{needs}
 use Rattle.raft_log.proofs.raft_log_write_number.Statement.{statement}
 use Rattle.raft_log.proofs.raft_log_write_number.Tie as tie

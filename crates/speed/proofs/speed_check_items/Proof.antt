@@ -1,7 +1,7 @@
 -- `speed::speed_check_items` meets its contract.
 -- Assumes nothing.
 use Rattle.speed.specs.Replies.{countReply}
-use Rattle.speed.proofs.Laws.{told}
+use Rattle.item_row.proofs.Replies.{told}
 use borrow.Author.Needs.{needs}
 use Rattle.speed.proofs.speed_check_items.Statement.{statement}
 use Rattle.speed.proofs.speed_check_items.Tie as tie

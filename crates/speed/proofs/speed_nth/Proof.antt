@@ -2,7 +2,7 @@
 -- Assumes nothing.
 use mathlib.Core.Path.{_∙_}
 use Rattle.speed.specs.Replies.{nthReply}
-use Rattle.speed.proofs.Laws.{told}
+use Rattle.item_row.proofs.Replies.{told}
 use borrow.Author.Needs.{needs}
 use Rattle.speed.proofs.speed_nth.Statement.{statement}
 use Rattle.speed.proofs.speed_nth.Tie as tie
