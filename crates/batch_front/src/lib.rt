@@ -7,6 +7,7 @@ ghost use Rattle.words.specs.Write.{placed};
 ghost use Rattle.log_item.specs.Private.{Room};
 use list_measure::Measured;
 use list_writer::Encoded;
+use list_writer::answer;
 
 // The lengths of a header and of a checksum, which LogBatch has as its own.
 pub const HEADER_LEN: usize = 16;
@@ -54,16 +55,6 @@ fn plan(m: Measured, items: usize, content: &[u8], room: usize) -> Encoded
         return answer(refusal::OUTPUT_SHORT, 0, 0);
     }
     answer(refusal::NONE, 0, size)
-}
-
-fn answer(number: u32, item: usize, length: usize) -> Encoded
-    ensures { λ r. ⌜ r ≡ record { number = number; item = item; length = length } ⌝ }
-{
-    Encoded {
-        number,
-        item,
-        length,
-    }
 }
 
 // Where the body stands behind a block of this content.

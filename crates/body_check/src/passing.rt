@@ -12,6 +12,7 @@ use field::Form;
 use field::read_byte;
 use field::read_number;
 use log_item::TailRead;
+use words::wide;
 
 // The item at a place, with `total` bytes of entries and `used` entries before it in the batch.
 pub(crate) fn pass_item(buf: &[u8], at: usize, total: u32, used: usize, form: Form) -> Passed
@@ -233,10 +234,4 @@ fn read_tail(buf: &[u8], at: usize, form: Form) -> Field
         }
     }
     read_number(buf, at, form)
-}
-
-fn wide(b: u8) -> u64
-    ensures { λ r. ⌜ r ≡ b ⌝ }
-{
-    b as u64
 }

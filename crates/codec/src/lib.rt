@@ -14,6 +14,7 @@ pub use words::decode_u64;
 pub use words::encode_u32_le;
 pub use words::encode_u64;
 pub use words::least;
+pub use words::wide;
 pub use words::write_bytes;
 ghost use mathlib.Core.Path.{_≡_};
 ghost use Prim.Native.Nat.{_<_};

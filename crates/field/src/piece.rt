@@ -6,7 +6,8 @@ use crate::Field;
 use crate::Form;
 use crate::Span;
 use crate::SpanRead;
-use codec::NumberRead;
+use numbers::NumberRead;
+use words::wide;
 
 // What Form::Plain alone refuses. Document 01 has no such number: it is shown to the plain-form test, which answers no.
 const NOT_SHORTEST: u32 = 8;
@@ -34,10 +35,10 @@ pub fn read_span(buf: &[u8], at: usize, form: Form) -> SpanRead
 pub fn read_number(buf: &[u8], at: usize, form: Form) -> Field
     ensures { λ r. ⌜ fieldGot r ≡ number form (now (buf .entry)) at ⌝ }
 {
-    match codec::decode_var_u64(buf, at) {
+    match numbers::decode_var_u64(buf, at) {
         NumberRead::Done { value, next } => {
             if let Form::Plain = form {
-                if next - at != codec::var_u64_len(value) {
+                if next - at != numbers::var_u64_len(value) {
                     return Field::Refused(NOT_SHORTEST);
                 }
             }
@@ -60,10 +61,4 @@ pub fn read_byte(buf: &[u8], at: usize) -> Field
     } else {
         Field::Refused(refusal::NUMBER_BROKEN)
     }
-}
-
-fn wide(b: u8) -> u64
-    ensures { λ r. ⌜ r ≡ b ⌝ }
-{
-    b as u64
 }

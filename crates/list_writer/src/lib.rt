@@ -86,7 +86,8 @@ pub fn placing(m: Measured, all: usize, at: usize) -> Encoded
     answer(refusal::NONE, 0, m.length)
 }
 
-fn answer(number: u32, item: usize, length: usize) -> Encoded
+// An answer with these three.
+pub fn answer(number: u32, item: usize, length: usize) -> Encoded
     ensures { λ r. ⌜ r ≡ encoded number item length ⌝ }
 {
     Encoded {

@@ -11,9 +11,12 @@ pub use entries::skip_tails;
 pub use field::Field;
 pub use field::Form;
 pub use field::Span;
+pub use field::SpanRead;
 pub use field::is_internal_key;
 pub use field::lies_in;
+pub use field::read_byte;
 pub use field::read_number;
+pub use field::read_span;
 pub use field::starts_with;
 ghost use mathlib.Core.Path.{_≡_};
 ghost use Rattle.log_item.specs.Entries.{entriesOf};
@@ -21,9 +24,6 @@ ghost use Rattle.log_item.specs.Reading.{command, putAt, keyValue, entry
 ghost use Rattle.log_item.specs.Private.{commandGot, keyValueGot, entriesGot, contentGot};
 ghost use Rattle.log_item.specs.Answers.{headGot, tailGot, itemGot, passItem};
 use entries::read_first_index;
-use field::SpanRead;
-use field::read_byte;
-use field::read_span;
 
 // A group's log is cleaned, or compacted up to an index.
 pub enum Command {

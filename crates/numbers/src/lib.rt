@@ -7,6 +7,7 @@ ghost use lib.ListN.{length, getD};
 ghost use Rattle.numbers.specs.Number.{readNumber};
 ghost use Rattle.numbers.specs.Shortest.{shortest};
 use words::least;
+use words::wide;
 
 // What stands at a place: a number and the place after it; or the bytes end inside or before it; or its tenth byte is above 1.
 pub enum NumberRead {
@@ -91,10 +92,4 @@ fn decode_up_to(buf: &[u8], at: usize, first: u64, end: usize) -> NumberRead
         value: value + (b << 63),
         next: at + 10,
     }
-}
-
-fn wide(b: u8) -> u64
-    ensures { λ r. ⌜ r ≡ b ⌝ }
-{
-    b as u64
 }

@@ -2,7 +2,7 @@
 ghost use mathlib.Core.Path.{_≡_};
 ghost use Prim.Native.Nat.{_-_};
 ghost use Rattle.seal.specs.Seal.{sealCheck, blockCheck};
-use codec::U32Read;
+use words::U32Read;
 
 // Whether the last four bytes are the checksum of those before them XOR the signature: 0, or 5 or 6.
 pub fn check_seal(bytes: &[u8], signature: u32) -> u32
@@ -12,7 +12,7 @@ pub fn check_seal(bytes: &[u8], signature: u32) -> u32
         return refusal::NO_CONTENT;
     }
     let n = bytes.len() - 4;
-    match codec::decode_u32_le(bytes, n) {
+    match words::decode_u32_le(bytes, n) {
         U32Read::Done { value, next: _ } => {
             if value == crc::crc32(&bytes[..n]) ^ signature {
                 refusal::NONE

@@ -5,6 +5,8 @@ use denote.Ref.{now}
 use Rattle.one_answer.specs.OneAnswer.{OneAnswer}
 use Rattle.words.proofs.least.Kinds as least-kinds
 use Rattle.words.proofs.least.Reads as least-reads
+use Rattle.words.proofs.wide.Kinds as wide-kinds
+use Rattle.words.proofs.wide.Reads as wide-reads
 use Rattle.words.proofs.decode_u64.Kinds as decode-u64-kinds
 use Rattle.words.proofs.decode_u64.Reads as decode-u64-reads
 use Rattle.words.proofs.encode_u64.Kinds as encode-u64-kinds
@@ -18,6 +20,9 @@ use Rattle.words.proofs.write_bytes.Reads as write-reads
 
 pub least : OneAnswer 0 least-kinds.ps least-kinds.r least-reads.Post (λ κs x y s t. x ≡ y)
 least κs a x y s t p q = p ∙ sym q
+
+pub wide : OneAnswer 0 wide-kinds.ps wide-kinds.r wide-reads.Post (λ κs x y s t. x ≡ y)
+wide κs a x y s t p q = p ∙ sym q
 
 pub decode-u64 : OneAnswer 1 decode-u64-kinds.ps decode-u64-kinds.r decode-u64-reads.Post (λ κs x y s t. x ≡ y)
 decode-u64 κs a x y s t p q = p ∙ sym q

@@ -1,5 +1,5 @@
-// Words of a fixed number of bytes, read and written at a place of a lent slice: big-endian ones of 64 bits, little-endian ones of 32; and the
-// copying of bytes. From codec.rs, the part that log batches use.
+// Words of a fixed number of bytes, read and written at a place of a lent slice: big-endian ones of 64 bits, little-endian ones of 32; the copying
+// of bytes, the lesser of two and a byte as a number. From codec.rs, the part that log batches use.
 //
 // Every public function takes any arguments. A place may lie anywhere, past the end too, and what does not fit is not written.
 ghost use mathlib.Core.Path.{_≡_};
@@ -149,4 +149,11 @@ pub fn least(a: usize, b: usize) -> usize
     ensures { λ r. ⌜ r ≡ min a b ⌝ }
 {
     if a < b { a } else { b }
+}
+
+// A byte as a number of 64 bits.
+pub fn wide(b: u8) -> u64
+    ensures { λ r. ⌜ r ≡ b ⌝ }
+{
+    b as u64
 }
