@@ -5,22 +5,32 @@ fail() {
     exit 2
 }
 
-# Sets oracle to the program of a build (debug or release), and crate to the folder of its sources: from $built, or built in target/oracle.
+# The path of a folder from the root on, since the scripts change folders.
+absolute() {
+    (cd "$1" 2>/dev/null && pwd) || fail "missing: the folder $1"
+}
+
+# Sets oracle to the program of a build (debug or release): from $built, or built in target/oracle out of $sources. An oracle that was
+# built there from another folder is built again.
 find_oracle() {
     if [ -z "$built" ]; then
         [ -x "$sources/build.sh" ] || fail "missing: the oracle (the real crate's code behind lines).
 There is no build.sh in $sources.
 Give its folder with --oracle FOLDER, or one that is built with --built FOLDER (it holds debug/oracle and release/oracle)."
         command -v cargo >/dev/null || fail "missing: cargo and rustc, with which the oracle and the comparison are built"
+        sources=$(absolute "$sources") || exit 2
         built=$root/target/oracle
-        if [ ! -x "$built/debug/oracle" ] || [ ! -x "$built/release/oracle" ]; then
+        if [ ! -x "$built/debug/oracle" ] || [ ! -x "$built/release/oracle" ] || [ "$(cat "$built/from" 2>/dev/null)" != "$sources" ]; then
             echo "building the oracle in target/oracle" >&2
+            rm -rf "$built"
             mkdir -p "$built"
             "$sources/build.sh" "$built" >"$built/build.log" 2>&1 || fail "the oracle did not build; the end of target/oracle/build.log:
 $(tail -5 "$built/build.log")
 Where crates are missing: run as root '$sources/build.sh apt FOLDER' (Debian 12), then give --built FOLDER."
+            echo "$sources" >"$built/from"
         fi
     fi
+    built=$(absolute "$built") || exit 2
     oracle=$built/$1/oracle
     [ -x "$oracle" ] || fail "missing: $oracle"
 }
@@ -34,6 +44,8 @@ build_library() {
 # Sets speed to the folder of libspeed.a and libspeed_tables.a. To be called before find_library, which may set RAFT_LOG_LIB.
 find_speed() {
     speed=${RAFT_LOG_LIB:-$root/target/staticlib}
+    mkdir -p "$speed"
+    speed=$(absolute "$speed") || exit 2
     for name in speed speed_tables; do
         [ -n "${RAFT_LOG_LIB:-}" ] || build_library "$name"
         [ -f "$speed/lib$name.a" ] || fail "missing: $speed/lib$name.a"
@@ -47,6 +59,7 @@ find_library() {
         build_library raft_log
         RAFT_LOG_LIB=$root/target/staticlib
     fi
+    RAFT_LOG_LIB=$(absolute "$RAFT_LOG_LIB") || exit 2
     library=$RAFT_LOG_LIB/libraft_log.a
     [ -f "$library" ] || fail "missing: $library"
     header=${RAFT_LOG_INCLUDE:-$root}/raft_log.h

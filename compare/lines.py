@@ -100,6 +100,14 @@ def do_plain(name, b):
         return [line("plain", name, why.number, why.item)]
 
 
+def do_go(name, b):
+    try:
+        t = read_items(data(b))
+    except Refused as why:
+        return [line("go", name, why.number, why.item)]
+    return [line("go", name, "counts", t.item_count, t.entry_count, t.total, t.next)]
+
+
 def do_whole(name, signature, b):
     return [table_line("whole", name, lambda: read_batch(data(b), int(signature, 16)))]
 
@@ -310,6 +318,6 @@ def do_tail(name, *words):
 
 DO = {
     "crc": do_crc, "number": do_number, "read": do_read, "big": do_big, "little": do_little, "header": do_header, "items": do_items,
-    "footed": do_footed, "plain": do_plain, "whole": do_whole, "view": do_view, "status": do_status, "encode": do_encode,
+    "footed": do_footed, "plain": do_plain, "go": do_go, "whole": do_whole, "view": do_view, "status": do_status, "encode": do_encode,
     "alone": do_alone, "memtable": do_memtable, "open": do_open, "tail": do_tail,
 }

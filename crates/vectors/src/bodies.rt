@@ -1,7 +1,8 @@
-// Bodies and whole batches: the table that one gives, or its refusal; and plain form.
+// Bodies and whole batches: the table that one gives, or its refusal; what a body holds, without a table; and plain form.
 use crate::input;
 use crate::tables;
 use crate::text;
+use body_check::BodyCheck;
 use body_check::PlainForm;
 use codec::Wrote;
 use item_batch::LogItemBatch;
@@ -35,6 +36,33 @@ pub(crate) fn read(letter: u8, bytes: &[u8], signature: u32) -> LogItemBatch {
         LogBatch::decode(bytes, signature)
     } else {
         LogItemBatch::decode(bytes, signature)
+    }
+}
+
+// Items, and then the place after the last of them.
+pub(crate) fn go_over(line: &[u8]) {
+    let mut buf = [0u8; 64];
+    let n = input::bytes(line, 2, &mut buf);
+    input::start(line);
+    counts(body_check::check_items(text::front(&buf, n)));
+    text::end();
+}
+
+fn counts(got: BodyCheck) {
+    match got {
+        BodyCheck::Accepted {
+            items,
+            entries,
+            total,
+            next,
+        } => {
+            text::word(b"counts");
+            text::number(items as u64);
+            text::number(entries as u64);
+            text::number(total as u64);
+            text::number(next as u64);
+        }
+        BodyCheck::Refused(why) => text::refusal(why),
     }
 }
 

@@ -10,6 +10,7 @@
 //     items NAME SIGNATURE BYTES                                  a body, whose footer is put behind it here
 //     footed NAME SIGNATURE BYTES                                 a body with its footer
 //     plain NAME BYTES                                            the same, unsigned, asked for its form
+//     go NAME BYTES                                               a body without footer, gone over without a table
 //     whole NAME SIGNATURE BYTES                                  a whole batch
 //     view NAME QUEUE LENGTH PLACE ENTRYLENGTH APPEND REWRITE     queue 0 is append, and both blocks are lent
 //     status NAME LENT BYTES                                      an item, and how many of its bytes are lent
@@ -67,6 +68,7 @@ fn line(line: &[u8]) {
         b'h' => headers::case(line),
         b'i' | b'f' | b'w' => bodies::case(line),
         b'p' => bodies::plain(line),
+        b'g' => bodies::go_over(line),
         b'v' => views::case(line),
         b's' => statuses::case(line),
         b'e' => writes::case(line),

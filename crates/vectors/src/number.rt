@@ -5,18 +5,18 @@ use codec::NumberRead;
 use codec::U32Read;
 use codec::U64Read;
 
-// The shortest form, read back, then each longer form of the same number.
+// The shortest form, read back, then each longer form of the same number: by the functions for a number by itself.
 pub(crate) fn number(line: &[u8]) {
     let n = input::number(line, 1);
     let mut buf = [0u8; 10];
     let len = codec::var_u64_len(n);
-    codec::encode_var_u64(n, &mut buf, 0);
+    codec::encode_var_u64_unrolled(n, &mut buf, 0);
     text::start(b"number");
     text::number(n);
     text::number(len as u64);
     text::hex(text::front(&buf, len));
     text::end();
-    read(text::front(&buf, len));
+    alone(text::front(&buf, len));
     padded(buf, len);
 }
 
@@ -31,20 +31,25 @@ fn padded(bytes: [u8; 10], len: usize) {
         buf[n - 1] = 128 + buf[n - 1] % 128;
         buf[n] = 0;
         n += 1;
-        read(text::front(&buf, n));
+        alone(text::front(&buf, n));
     }
 }
 
 pub(crate) fn bytes(line: &[u8]) {
     let mut buf = [0u8; 16];
     let n = input::bytes(line, 1, &mut buf);
-    read(text::front(&buf, n));
+    let number = text::front(&buf, n);
+    read(number, codec::decode_var_u64(number, 0));
 }
 
-fn read(bytes: &[u8]) {
+fn alone(bytes: &[u8]) {
+    read(bytes, codec::decode_var_u64_unrolled(bytes, 0));
+}
+
+fn read(bytes: &[u8], got: NumberRead) {
     text::start(b"read");
     text::hex(bytes);
-    match codec::decode_var_u64(bytes, 0) {
+    match got {
         NumberRead::Done { value, next } => {
             text::number(value);
             text::number(next as u64);

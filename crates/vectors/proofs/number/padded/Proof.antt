@@ -46,8 +46,8 @@ slice-aggregate-front c = search needs
 front-requires : tie.Need-front-requires Inv-loop μ-loop
 front-requires c κs = search needs
 
-read-requires : tie.Need-read-requires Inv-loop μ-loop
-read-requires c κs = search needs
+alone-requires : tie.Need-alone-requires Inv-loop μ-loop
+alone-requires c κs = search needs
 
 loop-less : tie.Need-loop-less Inv-loop μ-loop
 loop-less c = search needs
@@ -75,7 +75,7 @@ padded-spec =
     add-n
     slice-aggregate-front
     front-requires
-    read-requires
+    alone-requires
     loop-less
     loop-again
     returns-2)
