@@ -1,7 +1,8 @@
 /* raft_log.h: log batches in the format of raft-engine, read and written in memory that the caller lends.
  *
  * The functions stand in libraft_log.a (`rt staticlib raft_log`), which needs no other library and allocates nothing. Each is proved to
- * answer as document 01 says for all inputs. Nothing checks this header against them: keep it as it is.
+ * answer as document 01 says for all inputs. Nothing proves this header: change it with crates/raft_log/src and
+ * compare/raft_log/src/sys.rs, and run compare/test and compare/examples/run.
  *
  * Common to all
  *   - A function that can refuse returns 0, or the number of the first check that failed: see below.
@@ -10,7 +11,8 @@
  *   - Bytes are lent as a pointer and a length in bytes. Rows are lent as a pointer to 64-bit words and a length in WORDS; what does not
  *     make up a whole row at the end is not looked at and not written.
  *   - After a refusal all lent rows and bytes are as they were. Rows and bytes past the result are never touched.
- *   - No pointer is null, also where the length is 0, and words are aligned. What a function writes overlaps nothing else it is lent.
+ *   - No pointer may be null, also where the length is 0, words must be aligned, and what a function writes must overlap nothing else
+ *     that it is lent.
  *   - A place is counted from 0, in the bytes that are named. Items are counted from 0. size_t has 64 bits.
  *
  * Rows

@@ -38,6 +38,10 @@ int main(int argc, char **argv) {
         return 2;
     }
     size_t n = fread(data, 1, sizeof data, file);
+    if (ferror(file) || (n == sizeof data && fgetc(file) != EOF)) {
+        fprintf(stderr, "%s: not read, or longer than this example takes\n", argv[1]);
+        return 2;
+    }
     fclose(file);
     uint32_t signature = argc > 2 ? (uint32_t)strtoul(argv[2], NULL, 10) : 0;
     uint64_t answer[9];

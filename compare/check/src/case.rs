@@ -289,8 +289,7 @@ fn items(list: &List, checked: bool) -> String {
         let g = item.group;
         out.push(match &item.content {
             Content::Entries { count, first } => {
-                let count = if matches!(list.lens.len(), 0) { 0 } else { *count as usize };
-                let count = count.min(list.lens.len() - used);
+                let count = (*count as usize).min(list.lens.len() - used);
                 let lens: Vec<String> = list.lens[used..used + count].iter().map(u64::to_string).collect();
                 used += count;
                 format!("{g} entries {first} {}", if lens.is_empty() { "-".into() } else { lens.join(",") })

@@ -33,6 +33,17 @@ pub struct Failure {
     pub wrong: String,
 }
 
+/// Stops the run where its worker panics, so that nobody waits for what is left.
+struct StopsOnPanic<'a>(&'a AtomicBool);
+
+impl Drop for StopsOnPanic<'_> {
+    fn drop(&mut self) {
+        if std::thread::panicking() {
+            self.0.store(true, Ordering::Relaxed);
+        }
+    }
+}
+
 impl Plan {
     /// How many short inputs are in the run: all of them, or half of a small run.
     fn short(&self) -> u64 {
@@ -61,6 +72,7 @@ impl Plan {
         std::thread::scope(|scope| {
             for _ in 0..self.jobs {
                 let work = || {
+                    let _stops = StopsOnPanic(&stop);
                     let mut library = self.library.map(|make| make());
                     while !stop.load(Ordering::Relaxed) {
                         let from = next.fetch_add(PART, Ordering::Relaxed);

@@ -148,27 +148,31 @@ pub fn read_batch(data: &[u8], signature: u32) -> Result<Batch, Refusal> {
     Ok(Batch { table: table(&counted, &items, &entries), body: span(5), block: span(7) })
 }
 
+/// The longest body, in bytes.
+const BODY_MAX: usize = 4_294_967_295;
+
 /// What is written: rows of items, and of entries, of which only lengths count.
 struct Written {
     items: Vec<u64>,
     entries: Vec<u64>,
-    /// A length that no result passes.
+    /// A length that no body passes which is not refused.
     room: usize,
 }
 
 fn written(items: &[Item], entry_lens: &[u32], store: &[u8]) -> Written {
     let span = |span: Span| if span.of(store).is_some() { span.len } else { 0 };
     let spans = |item: &Item| match item.content {
-        Content::Put { key, value } => span(key) + span(value),
+        Content::Put { key, value } => span(key).saturating_add(span(value)),
         Content::Del { key } => span(key),
         _ => 0,
     };
-    // An item has at most four numbers of ten bytes, a type and a kind beside its spans and tails.
-    let room = 64 + items.iter().map(|item| 42 + spans(item)).sum::<usize>() + 10 * entry_lens.len();
+    // Beside its spans and tails an item has at most three numbers of ten bytes, a type and a kind; a body a count and a footer. Above
+    // BODY_MAX a body is a 22 whatever is lent.
+    let room = items.iter().map(|item| 32usize.saturating_add(spans(item))).fold(14 + 10 * entry_lens.len(), usize::saturating_add);
     Written {
         items: items.iter().flat_map(Item::to_row).collect(),
         entries: entry_lens.iter().flat_map(|len| Entry { index: 0, offset: 0, len: *len }.to_row()).collect(),
-        room,
+        room: room.min(BODY_MAX),
     }
 }
 
@@ -194,7 +198,7 @@ pub fn write_body_unchecked(items: &[Item], entry_lens: &[u32], store: &[u8], si
 
 fn batch(items: &[Item], lens: &[u32], store: &[u8], content: &[u8], signature: u32, checked: bool) -> Result<Vec<u8>, Refusal> {
     let rows = written(items, lens, store);
-    let mut out = vec![0; rows.room + content.len()];
+    let mut out = vec![0; 20 + rows.room + content.len()];
     let mut answer = [0; 2];
     let lent = lent::Rows { items: &rows.items, entries: &rows.entries, store };
     result(lent::write_batch(lent, content, signature, checked, &mut out, &mut answer), answer[0])?;

@@ -16,6 +16,7 @@ impl Span {
     }
 }
 
+/// A group's log is cleaned, or compacted up to an index.
 #[derive(Clone, Copy, Debug, PartialEq, Eq)]
 pub enum Command {
     Clean,
@@ -40,6 +41,7 @@ pub enum Content {
     },
 }
 
+/// A group and what is stored for it.
 #[derive(Clone, Copy, Debug, PartialEq, Eq)]
 pub struct Item {
     pub group: u64,
@@ -54,6 +56,7 @@ pub struct Entry {
     pub len: u32,
 }
 
+/// Which of the two logs an entry lies in.
 #[derive(Clone, Copy, Debug, PartialEq, Eq)]
 pub enum Queue {
     Append,
@@ -80,6 +83,7 @@ pub enum Status {
 }
 
 impl Item {
+    /// Its row of raft_log.h.
     pub fn to_row(&self) -> [u64; ITEM_WORDS] {
         let span = |span: Span| (span.at as u64, span.len as u64);
         let mut row = [self.group, 0, 0, 0, 0, 0, 0];
@@ -116,21 +120,25 @@ impl Item {
 }
 
 impl Entry {
+    /// Its row of raft_log.h.
     pub fn to_row(&self) -> [u64; ENTRY_WORDS] {
         [self.index, self.offset.into(), self.len.into()]
     }
 
+    /// The entry of a row.
     pub fn from_row(row: &[u64; ENTRY_WORDS]) -> Entry {
         Entry { index: row[0], offset: row[1] as u32, len: row[2] as u32 }
     }
 }
 
 impl Location {
+    /// Its row of raft_log.h.
     pub fn to_row(&self) -> [u64; LOCATION_WORDS] {
         let queue = if self.queue == Queue::Append { 0 } else { 1 };
         [queue, self.file, self.block_at, self.block_len, self.entry_offset.into(), self.entry_len.into()]
     }
 
+    /// The location of a row whose queue is 0 or 1.
     pub fn from_row(row: &[u64; LOCATION_WORDS]) -> Location {
         Location {
             queue: if row[0] == 0 { Queue::Append } else { Queue::Rewrite },
@@ -152,6 +160,7 @@ macro_rules! reasons {
         }
 
         impl Reason {
+            /// The reason of a number of document 01; none for 0 and what 01 does not have.
             pub fn from_number(number: u32) -> Option<Reason> {
                 match number {
                     $($number => Some(Reason::$name),)*
@@ -159,6 +168,7 @@ macro_rules! reasons {
                 }
             }
 
+            /// What went wrong, in a phrase.
             pub fn text(self) -> &'static str {
                 match self {
                     $(Reason::$name => $says,)*
@@ -173,28 +183,28 @@ reasons! {
     CompressionUnknown = 2 "compression type above 1"
     OffsetAboveLength = 3 "offset above length"
     OffsetBelowHeader = 4 "offset below 16"
-    TooShort = 5 "body, or non-empty block, of 4 bytes or fewer"
+    NoContent = 5 "body, or non-empty block, of 4 bytes or fewer"
     ChecksumWrong = 6 "checksum wrong"
     NumberBroken = 7 "bytes end inside or before a number or one-byte field, or a tenth byte is above 1"
-    TooManyItems = 9 "more than 256 items"
-    TypeUnknown = 10 "unknown item type"
+    ItemsTooMany = 9 "more than 256 items"
+    ItemTypeUnknown = 10 "unknown item type"
     CommandUnknown = 11 "unknown command"
     OpUnknown = 12 "unknown op"
-    SpanPastEnd = 13 "a span runs past the bytes it lies in, or too few entry rows"
-    TooManyEntries = 14 "more than 1,024 entries"
-    TailBelowTotal = 15 "a tail below the total before it"
+    SpanOutside = 13 "a span runs past the bytes it lies in, or too few entry rows"
+    EntriesTooMany = 14 "more than 1,024 entries"
+    TailFalls = 15 "a tail below the total before it"
     TailTooLarge = 16 "a tail above 4,294,967,295"
     IndexTooLarge = 17 "an index above 2^64 - 1"
     BatchShort = 18 "fewer bytes than the header's length"
     Compressed = 19 "a compressed batch"
-    LengthsDiffer = 20 "entry total differs from block content, or block length from a row's"
+    BlockDiffers = 20 "entry total differs from block content, or block length from a row's"
     OutputShort = 21 "too little room for the result, or more than 64 location rows"
-    ResultTooLong = 22 "entry total above 2,147,483,647, or body above 4,294,967,295 bytes"
+    OutputTooLong = 22 "entry total above 2,147,483,647, or body above 4,294,967,295 bytes"
     KeyInternal = 23 "a put key begins with the internal prefix"
     OverlapAfter = 24 "overlap begins after the rewritten count"
     OverlapBefore = 25 "a gate is given and overlap begins before the rewritten count"
-    TableMalformed = 26 "location table not well formed"
-    IncomingMalformed = 27 "an incoming row not in the rewrite queue, or incoming indexes past 2^64 - 1"
+    TableBroken = 26 "location table not well formed"
+    IncomingBroken = 27 "an incoming row not in the rewrite queue, or incoming indexes past 2^64 - 1"
     StatusUnknown = 28 "atomic status byte above 2"
 }
 

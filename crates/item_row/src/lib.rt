@@ -1,4 +1,5 @@
-// An item as seven words: group, type, and five words by type and kind. The layout is that of raft_log.h.
+// An item as seven words: group, type, and five words by type and kind. The layout is that of raft_log.h. And, in specs/, what a
+// caller outside gets back.
 ghost use mathlib.Core.Path.{_≡_};
 ghost use Rattle.item_row.specs.Row.{spanOf, commandRow, keyRow, rowItem};
 use log_item::Command;

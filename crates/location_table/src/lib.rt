@@ -1,5 +1,5 @@
 // Tables of at most 64 locations, by value: what calls these functions holds no slice of locations, and is covered. Each lends its
-// arrays to memtable's function of the same name.
+// arrays to a function of memtable: rewrite and rows_after to its rewrite, the fetch to its fetch.
 ghost use mathlib.Core.Path.{_≡_};
 ghost use Rattle.location_table.specs.Private.{rowsUsed};
 ghost use Rattle.location_table.specs.Values.{rewriteValue, rowsValue, fetchValue, answerOf, fetchedOf};

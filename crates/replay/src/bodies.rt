@@ -142,7 +142,7 @@ fn rows(
     word
 }
 
-// The sum, or 1,024 where that is less.
+// The sum, or 1,024 where one of the two is above that.
 fn plus(a: usize, b: usize) -> usize {
     if 1024 < a {
         return 1024;
