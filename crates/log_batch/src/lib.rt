@@ -1,14 +1,18 @@
 // Whole batches, read and written: header, block and body. From log_batch.rs, LogBatch.
 //
-// Bodies and blocks are read in small crates below this one, and their functions have their names here too. What stands before the body of a
-// batch that is written, batch_front writes.
+// Bodies and blocks, the bytes of an entry and the marks of atomic groups are read in small crates below this one, and their functions have
+// their names here too. What stands before the body of a batch that is written, batch_front writes.
+pub use atomic_status::AtomicGroupStatus;
+pub use atomic_status::StatusRead;
 pub use body_check::BodyCheck;
 pub use body_check::PlainForm;
 pub use body_check::check;
 pub use body_check::check_items;
 pub use body_check::plain;
+pub use entry_view::entry_view;
 pub use item_batch::LogItemBatch;
 pub use item_batch::read_items;
+pub use list_writer::Encoded;
 pub use seal::check_block;
 ghost use mathlib.Core.Path.{_≡_};
 ghost use mathlib.Core.Bool.{true, false};
@@ -17,7 +21,6 @@ ghost use Rattle.log_batch.specs.Batch.{frontBatch, sealedBatch, readBat
 ghost use Rattle.log_batch.specs.Written.{BatchWritten};
 ghost use Rattle.item_batch.specs.Writing.{listed, tableLengths};
 use codec::U64Read;
-use list_writer::Encoded;
 use log_item::Span;
 
 // The frame of a batch, as its header states it.
