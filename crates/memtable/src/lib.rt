@@ -6,7 +6,7 @@ ghost use lib.ListN.{length, take, drop};
 ghost use lib.Seq.{paste};
 ghost use Rattle.memtable.specs.Rows.{runOf};
 ghost use Rattle.memtable.specs.Table.{wellFormed};
-ghost use Rattle.memtable.specs.Rewriting.{rewriteOf, rowsAfter};
+ghost use Rattle.memtable.specs.Rewriting.{Rewrote};
 ghost use Rattle.memtable.specs.Fetching.{fetchOf};
 use location_rules::Fetched;
 use location_rules::Gate;
@@ -24,7 +24,7 @@ pub fn rewrite(
     first: u64,
     gate: Gate,
 ) -> Rewritten
-    ensures { λ r. ⌜ (r ≡ rewriteOf (now (rows .entry)) table (now (incoming .entry)) first gate) × (now (rows .exit) ≡ rowsAfter (now (rows .entry)) table (now (incoming .entry)) first gate) ⌝ }
+    ensures { λ r. ⌜ Rewrote (now (rows .entry)) table (now (incoming .entry)) first gate r (now (rows .exit)) ⌝ }
 {
     let good = is_well_formed(rows, table);
     let last = scan(incoming, 0, incoming.len(), Stop::Append);
