@@ -17,9 +17,9 @@ use Rattle.memtable.specs.Fetching.{fetchOf}
 use Rattle.memtable.proofs.Queues.{both}
 use Rattle.memtable.proofs.Surveys.{fetched-by}
 use Rattle.memtable.proofs.Fetches.{fetched-is}
-use Rattle.location_rows.specs.Words.{areRows, locationCount, rowsOf}
+use Rattle.location_rows.specs.Words.{areRows, locationCount, rowsOf, located}
 use Rattle.location_rows.specs.Answers.{limitedFetch, fetchWords}
-use Rattle.location_rows.specs.Private.{located, formedWords}
+use Rattle.location_rows.specs.Private.{formedWords}
 use Rattle.location_rows.proofs.Surveys.{located-length, count-within}
 
 module _ (words : List ℕ) (t : Table) (gate : ℕ) {b : Bool} (e : b ≡ formedWords words t) where

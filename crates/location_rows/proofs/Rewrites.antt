@@ -22,9 +22,9 @@ use Rattle.location_rules.proofs.Overlaps.{over-le, over-rows}
 use Rattle.memtable.proofs.Surveys.{ready-by}
 use Rattle.memtable.proofs.Rewrites.{run-fits, rewritten-by}
 use Rattle.memtable.proofs.Theorems.{refused-kept}
-use Rattle.location_rows.specs.Words.{areRows, locationCount, rows, broken, rowsOf, rowsWords}
+use Rattle.location_rows.specs.Words.{areRows, locationCount, rows, broken, rowsOf, rowsWords, located}
 use Rattle.location_rows.specs.Answers.{limited, RowsRewritten}
-use Rattle.location_rows.specs.Private.{located, formedWords, readyWords}
+use Rattle.location_rows.specs.Private.{formedWords, readyWords}
 use Rattle.location_rows.proofs.Rows.{room, pasted}
 use Rattle.location_rows.proofs.Surveys.{located-length, unformed, unready}
 use Rattle.location_rows.proofs.Limits.{limited-le, limited-in, limited-out, limited-refused}

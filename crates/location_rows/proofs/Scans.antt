@@ -16,8 +16,8 @@ use Rattle.location_rules.specs.declared.Stop.{Stop}
 use Rattle.location_rules.specs.Row.{stopsAt}
 use Rattle.memtable.specs.Rows.{runOf}
 use Rattle.memtable.proofs.Runs.{noRow, run-none, stopped, goes-on}
-use Rattle.location_rows.specs.Words.{queueOf, locationOf, areRows, locationCount}
-use Rattle.location_rows.specs.Private.{rowStart, located}
+use Rattle.location_rows.specs.Words.{queueOf, locationOf, areRows, locationCount, located}
+use Rattle.location_rows.specs.Private.{rowStart}
 use Rattle.location_rows.proofs.Rows.{less-none, locations-length, location-at}
 
 -- ---- one row

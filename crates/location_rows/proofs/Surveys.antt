@@ -14,8 +14,8 @@ use Rattle.memtable.specs.Table.{wellFormed}
 use Rattle.location_rules.specs.Parts.{wellFormedBy, readyBy}
 use Rattle.memtable.proofs.Queues.{both}
 use Rattle.memtable.proofs.Surveys.{formed-count, formed-by, ready-by}
-use Rattle.location_rows.specs.Words.{areRows, locationCount}
-use Rattle.location_rows.specs.Private.{located, formedWords, readyWords}
+use Rattle.location_rows.specs.Words.{areRows, locationCount, located}
+use Rattle.location_rows.specs.Private.{formedWords, readyWords}
 use Rattle.location_rows.proofs.Rows.{locations-length}
 
 pub located-length : (words : List ℕ) → length (located words) ≡ locationCount words

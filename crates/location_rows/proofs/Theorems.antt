@@ -17,10 +17,9 @@ use Rattle.memtable.specs.Table.{wellFormed}
 use Rattle.location_rules.specs.Decisions.{unchanged}
 use Rattle.memtable.specs.Rewriting.{rewriteOf, rowsAfter}
 use Rattle.memtable.proofs.Theorems.{refused-kept}
-use Rattle.location_rows.specs.Words.{startsWell, locationOf, areRows, locationCount, Rows, rows, broken, rowsOf, queueOf, queueWord, rowWords, rowsWords}
+use Rattle.location_rows.specs.Words.{startsWell, locationOf, areRows, locationCount, Rows, rows, broken, rowsOf, queueOf, queueWord, rowWords, rowsWords, located}
 use Rattle.location_rules.specs.Parts.{inReach}
 use Rattle.location_rows.specs.Answers.{limited, rewriteRows, rowsAfterwards, Kept}
-use Rattle.location_rows.specs.Private.{located}
 use Rattle.location_rows.proofs.Rows.{room, rows-back}
 use Rattle.location_rows.proofs.Surveys.{located-length}
 use Rattle.location_rows.proofs.Limits.{limited-in, limited-21, limited-same}

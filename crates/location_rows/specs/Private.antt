@@ -6,15 +6,11 @@ use mathlib.Core.List.{List}
 use Rattle.pipe_log.specs.declared.Location.{Location}
 use Rattle.location_rules.specs.declared.Table.{Table}
 use Rattle.memtable.specs.Table.{wellFormed, ready}
-use Rattle.location_rows.specs.Words.{queueOf, locationCount, areRows, locations}
+use Rattle.location_rows.specs.Words.{queueOf, locationCount, areRows, located}
 
 -- a row as far as a stop looks at it
 abbrev pub rowStart : ℕ → ℕ → Location
 rowStart queue seq = record { queue = queueOf queue; seq = seq; offset = 0; len = 0; «entry_offset» = 0; «entry_len» = 0 }
-
--- the locations that the words are
-abbrev pub located : List ℕ → List Location
-located words = locations (locationCount words) words
 
 -- each row is a location's, and the table is well formed
 unfoldable pub formedWords : List ℕ → Table → Bool

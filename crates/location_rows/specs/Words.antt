@@ -43,13 +43,17 @@ locations (suc n) words = locationOf words ∷ locations n (drop 6 words)
 abbrev pub locationCount : List ℕ → ℕ
 locationCount words = length words / 6
 
+-- the locations that the words are
+abbrev pub located : List ℕ → List Location
+located words = locations (locationCount words) words
+
 pub data Rows : Type 0 where
   rows : List Location → Rows
   broken : Rows
 
 -- the rows, or one of them is no location's
 unfoldable pub rowsOf : List ℕ → Rows
-rowsOf words = cond (areRows (locationCount words) words) (rows (locations (locationCount words) words)) broken
+rowsOf words = cond (areRows (locationCount words) words) (rows (located words)) broken
 
 -- ---- from locations to words
 
