@@ -2,7 +2,7 @@
 -- Assumes nothing.
 use mathlib.Core.Path.{_≡_}
 use Prim.Native.Nat.{ℕ, _*_}
-use mathlib.Core.Bool.{false, not, cond, _&&_}
+use mathlib.Core.Bool.{not, cond, _&&_}
 use mathlib.Core.List.{List, _++_}
 use lib.Dec.{leb, eqb}
 use lib.ListN.{length, drop}
@@ -12,7 +12,7 @@ use Rattle.location_rules.specs.declared.Rewritten.{Rewritten}
 use Rattle.location_rules.specs.declared.Fetched.{Fetched}
 use Rattle.memtable.specs.Table.{wellFormed}
 use Rattle.location_rules.specs.Parts.{inReach}
-use Rattle.location_rules.specs.Decisions.{unchanged, noRun, fetched}
+use Rattle.location_rules.specs.Decisions.{unchanged, noRun}
 use Rattle.memtable.specs.Rewriting.{rewriteOf, rowsAfter}
 use Rattle.memtable.specs.Fetching.{fetchOf}
 use Rattle.location_rows.specs.Words.{Rows, rows, broken, rowsOf, rowsWords}
@@ -45,7 +45,7 @@ abbrev pub Kept : List ℕ → Table → Rewritten → List ℕ → Type 0
 Kept words t r later = (r .replaced ≡ 0) × ((r .count ≡ t .count) × (later ≡ words))
 
 abbrev pub fetchRows : Rows → Table → ℕ → Fetched
-fetchRows broken t gate = fetched false t 0
+fetchRows broken t gate = noRun 26
 fetchRows (rows xs) t gate = limitedFetch (length xs) (fetchOf xs t gate)
 
 -- the answer r to a rewrite of the words of a table, and their later contents
