@@ -3,10 +3,10 @@
 use Prim.Native.Nat.{ℕ, zero, suc, _+_}
 use mathlib.Core.Path.{_≡_, refl, sym, _∙_}
 use mathlib.Core.Bool.{Bool, true, false}
-use mathlib.Core.List.{List, [], _∷_, _++_}
+use mathlib.Core.List.{List}
 use borrow.Author.Tests.{eq-eqb, ne-eqb}
 use lib.ListN.{getD}
-use Rattle.field.specs.Prefix.{prefix, begins, bytesOf}
+use Rattle.field.specs.Prefix.{begins, bytesOf}
 use Rattle.field.specs.declared.Span.{Span}
 use Rattle.log_item.specs.declared.Op.the-variants.{Put, Del}
 use Rattle.log_item.specs.declared.Command.{Command}
@@ -18,7 +18,7 @@ use Rattle.atomic_status.specs.declared.AtomicGroupStatus.the-variants.{
 use Rattle.atomic_status.specs.declared.StatusRead.{StatusRead}
 use Rattle.atomic_status.specs.declared.StatusRead.the-variants.{Mark, NoMark, Refused}
 use Rattle.field.specs.Prefix.{inside}
-use Rattle.atomic_status.specs.Status.{isMark, statusByte, markOf, statusOf}
+use Rattle.atomic_status.specs.Status.{markKey, isMark, statusByte, markOf, statusOf}
 
 -- ---- the key of a mark
 
@@ -26,7 +26,7 @@ module _ (s : List ℕ) (k : Span) where
   pub mark-length : (k .len ≡ 3 → ⊥) → false ≡ isMark s k
   mark-length h = rw (ne-eqb _ _ h)
 
-  pub mark-bytes : {r : Bool} → k .len ≡ 3 → r ≡ begins (bytesOf s k) (prefix ++ (1 ∷ [])) → r ≡ isMark s k
+  pub mark-bytes : {r : Bool} → k .len ≡ 3 → r ≡ begins (bytesOf s k) markKey → r ≡ isMark s k
   mark-bytes h e = rw (eq-eqb _ _ h) e
 
 -- ---- the status byte
@@ -69,23 +69,23 @@ module _ (group : ℕ) (key v : Span) (s : List ℕ) where
 -- ---- an item
 
 module _ (x : LogItem) (s : List ℕ) where
-  pub status-entries : {e : EntryIndexes} → x .content ≡ contents.EntryIndexes e → NoMark ≡ statusOf x (x .content) s
+  pub status-entries : {e : EntryIndexes} → x .content ≡ contents.EntryIndexes e → NoMark ≡ statusOf (x .«raft_group_id») (x .content) s
   unfolding statusOf
   status-entries e = rw e
 
-  pub status-command : {c : Command} → x .content ≡ contents.Command c → NoMark ≡ statusOf x (x .content) s
+  pub status-command : {c : Command} → x .content ≡ contents.Command c → NoMark ≡ statusOf (x .«raft_group_id») (x .content) s
   unfolding statusOf
   status-command e = rw e
 
   module _ {k : KeyValue} (e : x .content ≡ contents.Kv k) {a : Bool} (there : a ≡ inside s (k .key)) where
-    pub status-outside : {r : StatusRead} → a ≡ false → r ≡ Refused (record { number = 13; item = 0 }) → r ≡ statusOf x (x .content) s
+    pub status-outside : {r : StatusRead} → a ≡ false → r ≡ Refused (record { number = 13; item = 0 }) → r ≡ statusOf (x .«raft_group_id») (x .content) s
     unfolding statusOf
     status-outside h f = rw (e, sym there ∙ h) f
 
-    pub status-delete : a ≡ true → k .op ≡ Del → NoMark ≡ statusOf x (x .content) s
+    pub status-delete : a ≡ true → k .op ≡ Del → NoMark ≡ statusOf (x .«raft_group_id») (x .content) s
     unfolding statusOf markOf
     status-delete h o = rw (e, sym there ∙ h, o)
 
-    pub status-put : {v : Span} {r : StatusRead} → a ≡ true → k .op ≡ Put v → r ≡ markOf (x .«raft_group_id») (k .key) (Put v) s → r ≡ statusOf x (x .content) s
+    pub status-put : {v : Span} {r : StatusRead} → a ≡ true → k .op ≡ Put v → r ≡ markOf (x .«raft_group_id») (k .key) (Put v) s → r ≡ statusOf (x .«raft_group_id») (x .content) s
     unfolding statusOf
     status-put h o f = rw (e, sym there ∙ h, o) f

@@ -4,21 +4,23 @@ use Prim.Native.Nat.{ℕ, zero, suc}
 use mathlib.Core.Bool.{Bool, cond, _&&_}
 use mathlib.Core.List.{List, [], _∷_, _++_}
 use lib.Dec.{eqb}
-use lib.ListN.{getD}
+use lib.ListN.{length, getD}
 use Rattle.field.specs.Prefix.{prefix, begins, bytesOf, inside}
 use Rattle.field.specs.declared.Span.{Span}
 use Rattle.log_item.specs.declared.Op.{Op}
 use Rattle.log_item.specs.declared.Op.the-variants.{Put, Del}
 use Rattle.log_item.specs.declared.LogItemContent.{LogItemContent}
 use Rattle.log_item.specs.declared.LogItemContent.the-variants as contents
-use Rattle.log_item.specs.declared.LogItem.{LogItem}
 use Rattle.atomic_status.specs.declared.AtomicGroupStatus.the-variants.{Begin, Middle, End}
 use Rattle.atomic_status.specs.declared.StatusRead.{StatusRead}
 use Rattle.atomic_status.specs.declared.StatusRead.the-variants.{Mark, NoMark, Refused}
 
--- the key is the prefix and the byte 01
+-- the prefix and the byte 01
+abbrev pub markKey : List ℕ
+markKey = prefix ++ (1 ∷ [])
+
 abbrev pub isMark : List ℕ → Span → Bool
-isMark s k = eqb (k .len) 3 && begins (bytesOf s k) (prefix ++ (1 ∷ []))
+isMark s k = eqb (k .len) (length markKey) && begins (bytesOf s k) markKey
 
 -- 0 begin, 1 middle, 2 end, else 28
 abbrev pub statusByte : ℕ → ℕ → StatusRead
@@ -32,7 +34,8 @@ markOf group key (Put v) s =
     cond (inside s v) (cond (isMark s key && eqb (v .len) 1) (statusByte group (getD s (v .at) 0)) NoMark) (Refused (record { number = 13; item = 0 }))
 markOf group key Del s = NoMark
 
-unfoldable pub statusOf : LogItem → LogItemContent → List ℕ → StatusRead
-statusOf x (contents.EntryIndexes e) s = NoMark
-statusOf x (contents.Command c) s = NoMark
-statusOf x (contents.Kv k) s = cond (inside s (k .key)) (markOf (x .«raft_group_id») (k .key) (k .op) s) (Refused (record { number = 13; item = 0 }))
+-- what an item of this group and content marks
+unfoldable pub statusOf : ℕ → LogItemContent → List ℕ → StatusRead
+statusOf group (contents.EntryIndexes e) s = NoMark
+statusOf group (contents.Command c) s = NoMark
+statusOf group (contents.Kv k) s = cond (inside s (k .key)) (markOf group (k .key) (k .op) s) (Refused (record { number = 13; item = 0 }))

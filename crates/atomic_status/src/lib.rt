@@ -24,7 +24,7 @@ pub enum StatusRead {
 impl AtomicGroupStatus {
     // What an item marks. `store` has the bytes that the item's spans lie in.
     pub fn parse(item: LogItem, store: &[u8]) -> StatusRead
-        ensures { λ r. ⌜ r ≡ statusOf item (item .content) (now (store .entry)) ⌝ }
+        ensures { λ r. ⌜ r ≡ statusOf (item .«raft_group_id») (item .content) (now (store .entry)) ⌝ }
     {
         let content = item.content;
         match content {

@@ -69,7 +69,7 @@ module _ (row store : List ℕ) {r : ItemRowRead}
   unfolding rowStatus
   row-refused h = rw (sym first-row ∙ h)
 
-  pub row-marked : {x : LogItem} {a : Reply} {s : StatusRead} → r ≡ Item x → s ≡ statusOf x (x .content) store → a ≡ statusReply s
+  pub row-marked : {x : LogItem} {a : Reply} {s : StatusRead} → r ≡ Item x → s ≡ statusOf (x .«raft_group_id») (x .content) store → a ≡ statusReply s
       → a ≡ rowStatus (itemOfRow row 0) store
   unfolding rowStatus
   row-marked h k f = rw (sym first-row ∙ h) (f ∙ ap statusReply k)

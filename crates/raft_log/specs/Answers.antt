@@ -78,5 +78,5 @@ statusReply (status.Refused r) = reply (r .number) (0 ∷ 0 ∷ [])
 
 -- the same of an item row; a row that is no item has its refusal
 unfoldable pub rowStatus : ItemRowRead → List ℕ → Reply
-rowStatus (row.Item x) store = statusReply (statusOf x (x .content) store)
+rowStatus (row.Item x) store = statusReply (statusOf (x .«raft_group_id») (x .content) store)
 rowStatus (row.Refused r) store = reply r (0 ∷ 0 ∷ [])
