@@ -9,9 +9,10 @@ use native.Mathlib.Nat.{le-trans, lt-of-le-of-lt}
 use lib.Bits.{bitOr, bitAnd, or-lt, or-add-and, and-le-l, and-le-r}
 use lib.Count.{leading-top}
 use lib.Dec.{lit<}
-use lib.ListN.{length, getD, take, drop, length-append, length-drop}
+use lib.ListN.{length, take, drop, length-append, length-drop}
 use lib.Pow.{pow-pos}
 use lib.Seq.{take-append-seam, drop-append-seam}
+use Rattle.words.specs.Byte.{Bytes}
 use Rattle.numbers.specs.declared.NumberRead.the-variants.{Done}
 use Rattle.numbers.specs.Spelling.{Spells, Stands}
 use Rattle.numbers.specs.Number.{readNumber, readFrom}
@@ -64,17 +65,17 @@ unfolding shortest
 shortest-spells n h = let g = spell-good 9 n h in record { groups = g .groups; few = g .few; tenth = g .tenth }
 
 -- No spelling of the number in bytes is shorter.
-pub none-shorter : {n : ℕ} {bs : List ℕ} → Spells n bs → ((i : ℕ) → getD bs i 0 < 256) → length (shortest n) ≤ length bs
+pub none-shorter : {n : ℕ} {bs : List ℕ} → Spells n bs → Bytes bs → length (shortest n) ≤ length bs
 unfolding shortest
 none-shorter h byte = spell-least 9 (h .groups) byte
 
 -- A spelling of the number in bytes that is as short as the shortest is the shortest.
-pub none-as-short : {n : ℕ} {bs : List ℕ} → Spells n bs → ((i : ℕ) → getD bs i 0 < 256) → length bs ≡ length (shortest n) → bs ≡ shortest n
+pub none-as-short : {n : ℕ} {bs : List ℕ} → Spells n bs → Bytes bs → length bs ≡ length (shortest n) → bs ≡ shortest n
 unfolding shortest
 none-as-short h byte e = spell-only 9 (h .groups) byte e
 
 -- What bytes spell fits 64 bits.
-pub spells-fits : {n : ℕ} {bs : List ℕ} → Spells n bs → ((i : ℕ) → getD bs i 0 < 256) → n < 2 ^ 64
+pub spells-fits : {n : ℕ} {bs : List ℕ} → Spells n bs → Bytes bs → n < 2 ^ 64
 spells-fits h byte = groups-fit 9 (h .groups) (h .few) (h .tenth) byte
 
 -- Its length is 70 minus the leading zeros of (number OR 1), divided by 7, rounded down.
