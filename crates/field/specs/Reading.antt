@@ -26,24 +26,24 @@ byte s = do
   ltb p (length s) else 7
   upto (p + 1) (getD s p 0)
 
-module _ (form : Form) (s : List ℕ) where
-  -- a number in the form asked for. What Plain alone refuses has the number 8, which document 01 leaves free; the plain-form test answers no there
-  abbrev pub inForm : Form → Reading ℕ
-  inForm Any = λ p. numberGot (readNumber s p)
-  inForm Plain = do
-    p ← here
-    n ← λ p. numberGot (readNumber s p)
-    q ← here
-    eqb q (p + length (shortest n)) else 8
-    done n
+-- a number, however it is spelled
+abbrev pub anyNumber : List ℕ → Reading ℕ
+anyNumber s p = numberGot (readNumber s p)
 
-  unfoldable pub number : Reading ℕ
-  number = inForm form
+-- a number in the form asked for. What Plain alone refuses has the number 8, which document 01 leaves free; the plain-form test answers no there
+unfoldable pub number : Form → List ℕ → Reading ℕ
+number Any s = anyNumber s
+number Plain s = do
+  p ← here
+  n ← anyNumber s
+  q ← here
+  eqb q (p + length (shortest n)) else 8
+  done n
 
-  -- a length, and as many bytes
-  unfoldable pub span : Reading Span
-  span = do
-    n ← number
-    p ← here
-    leb (p + n) (length s) else 13
-    upto (p + n) (record { at = p; len = n })
+-- a length, and as many bytes
+unfoldable pub span : Form → List ℕ → Reading Span
+span form s = do
+  n ← number form s
+  p ← here
+  leb (p + n) (length s) else 13
+  upto (p + n) (record { at = p; len = n })
