@@ -6,6 +6,7 @@ use mathlib.Core.Logic.{_⊎_, inl, inr}
 use mathlib.Core.Bool.{Bool, true, false, cond, _&&_}
 use mathlib.Core.List.{List, [], _++_}
 use native.Mathlib.Omega.{arith}
+use lib.Bits.{xor-zero-r}
 use lib.Dec.{ltb, leb, eqb}
 use lib.ListN.{length, length-append}
 use borrow.Author.Tests.{eq-eqb, ne-eqb, le-leb, lt-leb, lt-ltb, le-ltb, leb-true, ltb-false, eqb-true, eqb-false}
@@ -18,6 +19,7 @@ use Rattle.list_writer.specs.declared.Encoded.{Encoded}
 use Rattle.list_measure.specs.Bytes.{listBytes}
 use Rattle.list_measure.specs.Refusing.{Verdict, fine, refused, listVerdict}
 use Rattle.list_measure.specs.Answers.{measured, measuredOf, measureOf}
+use Rattle.list_writer.specs.Bytes.{footed}
 use Rattle.list_writer.specs.Answers.{encoded}
 use Rattle.batch_front.specs.Front.{blockBytes, headerBytes, frontBytes, batchEncoded}
 
@@ -28,8 +30,8 @@ unfolding blockBytes
 empty-block content h = rw (eq-eqb (length content) 0 h)
 
 pub filled-block : (content : List ℕ) → (length content ≡ 0 → ⊥) → blockBytes content ≡ content ++ littleEndianBytes 4 (crcOf content)
-unfolding blockBytes
-filled-block content h = rw (ne-eqb (length content) 0 h)
+unfolding blockBytes footed
+filled-block content h = rw (ne-eqb (length content) 0 h, xor-zero-r (crcOf content))
 
 pub block-empty : (content : List ℕ) → length content ≡ 0 → 16 ≡ 16 + length (blockBytes content)
 block-empty content h = omega (arith, ap length (empty-block content h))

@@ -6,15 +6,15 @@ use mathlib.Core.Bool.{cond, _&&_}
 use mathlib.Core.List.{List, [], _++_}
 use lib.Dec.{ltb, leb, eqb}
 use lib.ListN.{length}
-use Rattle.words.specs.Word.{bigEndianBytes, littleEndianBytes}
-use Rattle.crc.specs.Crc.{crcOf}
+use Rattle.words.specs.Word.{bigEndianBytes}
 use Rattle.list_measure.specs.declared.Measured.{Measured}
 use Rattle.list_writer.specs.declared.Encoded.{Encoded}
+use Rattle.list_writer.specs.Bytes.{footed}
 use Rattle.list_writer.specs.Answers.{encoded, laid}
 
--- empty, or content and its unsigned checksum
+-- empty, or content and its unsigned checksum: the footer under signature 0
 unfoldable pub blockBytes : List ℕ → List ℕ
-blockBytes content = cond (eqb (length content) 0) [] (content ++ littleEndianBytes 4 (crcOf content))
+blockBytes content = cond (eqb (length content) 0) [] (footed 0 content)
 
 -- length times 256 plus compression type 0, and the body's offset
 unfoldable pub headerBytes : ℕ → ℕ → List ℕ

@@ -8,9 +8,13 @@ use Rattle.crc.specs.Crc.{crcOf}
 use Rattle.log_item.specs.declared.LogItem.{LogItem}
 use Rattle.list_measure.specs.Bytes.{listBytes}
 
--- bytes and their footer: checksum XOR signature, little-endian
+-- the footer of bytes: checksum XOR signature, little-endian
+abbrev pub footerBytes : ℕ → List ℕ → List ℕ
+footerBytes signature bs = littleEndianBytes 4 (bitXor (crcOf bs) signature)
+
+-- bytes and their footer
 unfoldable pub footed : ℕ → List ℕ → List ℕ
-footed signature bs = bs ++ littleEndianBytes 4 (bitXor (crcOf bs) signature)
+footed signature bs = bs ++ footerBytes signature bs
 
 -- item count, items, footer
 abbrev pub bodyBytes : List ℕ → List LogItem → List ℕ → ℕ → List ℕ

@@ -3,16 +3,14 @@
 use Prim.Native.Nat.{ℕ, zero, suc, _+_, _-_}
 use mathlib.Core.Bool.{cond}
 use mathlib.Core.List.{List}
-use lib.Bits.{bitXor}
 use lib.Dec.{leb}
 use lib.ListN.{length, take, drop}
-use Rattle.words.specs.Word.{littleEndianBytes}
 use Rattle.words.specs.Write.{nextAt, placed}
-use Rattle.crc.specs.Crc.{crcOf}
 use Rattle.log_item.specs.declared.LogItem.{LogItem}
 use Rattle.log_item.specs.Bytes.{headBytes}
 use Rattle.log_item.specs.Refusing.{contentInside}
 use Rattle.log_item.specs.Written.{pieceRefusal, itemPlaced}
+use Rattle.list_writer.specs.Bytes.{footerBytes}
 
 -- an item up to its tails: 13, then 21
 abbrev pub headRefusal : List ℕ → LogItem → ℕ → ℕ → ℕ
@@ -31,7 +29,7 @@ headPlaced s x out at = itemPlaced (headRefusal s x (length out) at) out at (hea
 
 -- the footer of what stands from `start` up to `at`
 abbrev pub footerOf : ℕ → ℕ → ℕ → List ℕ → List ℕ
-footerOf signature start at out = littleEndianBytes 4 (bitXor (crcOf (take (at - start) (drop start out))) signature)
+footerOf signature start at out = footerBytes signature (take (at - start) (drop start out))
 
 -- it is written behind that, unless `start` lies behind `at`
 unfoldable pub footerNext : ℕ → ℕ → ℕ → List ℕ → ℕ
