@@ -1,15 +1,15 @@
 -- What reading a body under a signature answers.
 -- Assumes nothing.
-use Prim.Native.Nat.{ℕ, zero, suc}
+use Prim.Native.Nat.{ℕ}
 use mathlib.Core.List.{List}
+use Rattle.refusal.specs.First.{ifNone}
 use Rattle.field.specs.declared.Form.the-variants.{Any}
 use Rattle.body_check.specs.Reading.{Answer, rejected, readItems}
 use Rattle.seal.specs.Seal.{sealedPart, sealCheck}
 
 -- where nothing was refused, the answer; else the refusal, outside items
 abbrev pub unless : ℕ → Answer → Answer
-unless zero a = a
-unless (suc r) a = rejected (suc r) 0
+unless r a = ifNone r a (rejected r 0)
 
 -- 5, 6, then what stands before the footer
 unfoldable pub readBody : List ℕ → ℕ → Answer

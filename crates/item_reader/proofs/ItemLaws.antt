@@ -6,6 +6,7 @@ use mathlib.Core.List.{List}
 use native.Mathlib.Omega.{arith}
 use borrow.Author.Tests.{lt-ltb, le-ltb}
 use lib.ListN.{length, take}
+use Rattle.refusal.specs.First.{ifNone}
 use Rattle.refusal.specs.declared.Refusal.{Refusal}
 use Rattle.field.specs.Got.{Got, got, refused, done, bind}
 use Rattle.log_item.specs.Entries.{entriesOf}
@@ -19,7 +20,7 @@ use Rattle.log_item.specs.declared.EntryIndexes.{EntryIndexes}
 use Rattle.item_reader.specs.declared.EntryRows.{EntryRows}
 use Rattle.item_reader.specs.declared.Next.the-variants as next
 use Rattle.item_reader.specs.declared.Step.{Step}
-use Rattle.item_reader.specs.Steps.{rowsStanding, FoundItem, foundAt, stayed, stepUnless, stepOf}
+use Rattle.item_reader.specs.Steps.{rowsStanding, FoundItem, foundAt, stayed, stepOf}
 
 -- ---- the item at a place
 
@@ -62,7 +63,7 @@ module _ (s : List ℕ) (e t p : ℕ) where
 
 -- ---- the step
 
-other-step : (n : ℕ) (s r : Step) → (n ≡ 0 → ⊥) → r ≡ stepUnless n s r
+other-step : (n : ℕ) (s r : Step) → (n ≡ 0 → ⊥) → r ≡ ifNone n s r
 other-step zero s r h = absurd (h refl)
 other-step (suc n) s r h = refl
 

@@ -1,10 +1,11 @@
 -- What a step over a body answers: the item at a place, or the end, or a refusal, and where the step leads.
 -- Assumes nothing.
-use Prim.Native.Nat.{ℕ, zero, suc, _+_}
+use Prim.Native.Nat.{ℕ, _+_}
 use mathlib.Core.Bool.{cond}
 use mathlib.Core.List.{List}
 use lib.Dec.{ltb}
 use lib.ListN.{length}
+use Rattle.refusal.specs.First.{ifNone}
 use Rattle.refusal.specs.declared.Refusal.{Refusal}
 use Rattle.field.specs.Got.{Got, got, refused, Reading, done, here, bind, _>>=_}
 use Rattle.log_item.specs.Entries.{entriesOf}
@@ -46,14 +47,9 @@ abbrev pub stepOver : ℕ → ℕ → ℕ → ℕ → Got FoundItem → Step
 stepOver at total used item (got x q) = record { at = q; total = x .total; used = x .used; item = item + 1; answer = next.Item (x .item) (x .rows) }
 stepOver at total used item (refused n) = stayed at total used item (next.Refused (record { number = n; item = item }))
 
--- where nothing was refused, the step; else the refusal
-abbrev pub stepUnless : ℕ → Step → Step → Step
-stepUnless zero s r = s
-stepUnless (suc n) s r = r
-
 -- from a place of a body, with total and entries before it, at the item of that number out of so many, where the body has that refusal
 unfoldable pub stepOf : List ℕ → ℕ → ℕ → ℕ → ℕ → ℕ → Refusal → Step
 stepOf body at total used item count refusal =
-    stepUnless (refusal .number)
+    ifNone (refusal .number)
     (cond (ltb item count) (stepOver at total used item (foundAt (sealedPart body) used total at)) (stayed at total used item next.End))
     (stayed at total used item (next.Refused refusal))

@@ -8,6 +8,7 @@ use native.Mathlib.Omega.{arith}
 use lib.Bits.{bitXor}
 use lib.ListN.{length, take, drop}
 use borrow.Author.Tests.{le-leb, lt-leb}
+use Rattle.refusal.specs.First.{ifNone}
 use Rattle.words.specs.Word.{littleEndianBytes}
 use Rattle.words.specs.Write.{wroteAt, nextAt, placed}
 use Rattle.words.specs.declared.Wrote.{Wrote}
@@ -23,15 +24,15 @@ use Rattle.log_item.specs.Private.{Room, Stored}
 use Rattle.log_item.specs.declared.PartWrote.{PartWrote}
 use Rattle.log_item.specs.declared.PartWrote.the-variants as part
 use Rattle.log_item.proofs.Stores.{Answered, none-refused, stored-at}
-use Rattle.list_writer.specs.Pieces.{headRefusal, nextUnless, headNext, headPlaced, footerOf, footerNext, footerPlaced}
+use Rattle.list_writer.specs.Pieces.{headRefusal, headNext, headPlaced, footerOf, footerNext, footerPlaced}
 
 -- ---- an item up to its tails
 
-next-place : (r at next n : ℕ) → part.Next n ≡ partWrote r next → n ≡ nextUnless r at next
+next-place : (r at next n : ℕ) → part.Next n ≡ partWrote r next → n ≡ ifNone r next at
 next-place zero at next n e = cc
 next-place (suc r) at next n e = absurd (let z : _≡_ {A = ℕ} 0 1 = cc in omega arith)
 
-same-place : (r at next m : ℕ) → part.Refused m ≡ partWrote r next → at ≡ nextUnless r at next
+same-place : (r at next m : ℕ) → part.Refused m ≡ partWrote r next → at ≡ ifNone r next at
 same-place zero at next m e = absurd (let z : _≡_ {A = ℕ} 0 1 = cc in omega arith)
 same-place (suc r) at next m e = refl
 

@@ -1,10 +1,11 @@
 -- The place that the writers of a body's pieces answer, and what they leave in the buffer. Where a piece is not written, both are as they were.
 -- Assumes nothing.
-use Prim.Native.Nat.{ℕ, zero, suc, _+_, _-_}
+use Prim.Native.Nat.{ℕ, _+_, _-_}
 use mathlib.Core.Bool.{cond}
 use mathlib.Core.List.{List}
 use lib.Dec.{leb}
 use lib.ListN.{length, take, drop}
+use Rattle.refusal.specs.First.{ifNone}
 use Rattle.words.specs.Write.{nextAt, placed}
 use Rattle.log_item.specs.declared.LogItem.{LogItem}
 use Rattle.log_item.specs.Bytes.{headBytes}
@@ -17,12 +18,8 @@ abbrev pub headRefusal : List ℕ → LogItem → ℕ → ℕ → ℕ
 headRefusal s x all at = pieceRefusal (contentInside s (x .content)) at (length (headBytes s x)) all
 
 -- the place after it, or the place itself where it is refused
-abbrev pub nextUnless : ℕ → ℕ → ℕ → ℕ
-nextUnless zero at next = next
-nextUnless (suc r) at next = at
-
 unfoldable pub headNext : List ℕ → LogItem → ℕ → ℕ → ℕ
-headNext s x all at = nextUnless (headRefusal s x all at) at (at + length (headBytes s x))
+headNext s x all at = ifNone (headRefusal s x all at) (at + length (headBytes s x)) at
 
 unfoldable pub headPlaced : List ℕ → LogItem → List ℕ → ℕ → List ℕ
 headPlaced s x out at = itemPlaced (headRefusal s x (length out) at) out at (headBytes s x)

@@ -4,20 +4,21 @@ use Prim.Native.Nat.{ℕ, zero, suc}
 use mathlib.Core.Path.{_≡_, refl, sym, ap, _∙_}
 use mathlib.Core.Bool.{false}
 use mathlib.Core.List.{List, [], _∷_}
+use Rattle.refusal.specs.First.{ifNone}
 use Rattle.list_writer.specs.declared.Encoded.{Encoded}
 use Rattle.list_writer.specs.Bytes.{bodyBytes}
 use Rattle.list_writer.specs.Answers.{encoded, laid}
 use Rattle.item_batch.specs.declared.LogItemBatch.{LogItemBatch}
 use Rattle.item_batch.specs.Writing.{BodyWritten, listed, tableLengths}
 use Rattle.item_row.specs.Reply.{Reply, reply}
-use Rattle.speed_tables.specs.Again.{encodedUnless, again, lengthReply, WrittenAgain}
+use Rattle.speed_tables.specs.Again.{again, lengthReply, WrittenAgain}
 
 module _ (e : Encoded) where
-  refused-is : (n : ℕ) → (n ≡ 0 → ⊥) → encoded n 0 0 ≡ encodedUnless n e
+  refused-is : (n : ℕ) → (n ≡ 0 → ⊥) → encoded n 0 0 ≡ ifNone n e (encoded n 0 0)
   refused-is zero h = absurd (h refl)
   refused-is (suc n) h = refl
 
-  fine-is : {n : ℕ} → n ≡ 0 → e ≡ encodedUnless n e
+  fine-is : {n : ℕ} → n ≡ 0 → e ≡ ifNone n e (encoded n 0 0)
   fine-is h = rw h
 
 module _ (body : List ℕ) (signature : ℕ) (out : List ℕ) where

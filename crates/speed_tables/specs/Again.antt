@@ -1,9 +1,10 @@
 -- What reading a body into a table answers, and what writing it again from that table answers and leaves in the buffer.
 -- Assumes nothing.
-use Prim.Native.Nat.{ℕ, zero, suc}
+use Prim.Native.Nat.{ℕ}
 use mathlib.Core.Path.{_≡_}
 use mathlib.Core.Bool.{false}
 use mathlib.Core.List.{List, [], _∷_}
+use Rattle.refusal.specs.First.{ifNone}
 use Rattle.list_writer.specs.declared.Encoded.{Encoded}
 use Rattle.list_writer.specs.Bytes.{bodyBytes}
 use Rattle.list_measure.specs.Answers.{measureOf}
@@ -16,14 +17,11 @@ use Rattle.item_row.specs.Reply.{Reply, reply}
 abbrev pub tableReply : LogItemBatch → Reply
 tableReply t = reply (t .refusal .number) (t .«item_count» ∷ t .«entry_count» ∷ t .total ∷ t .next ∷ [])
 
--- where the reading is refused, its refusal and no length
-abbrev pub encodedUnless : ℕ → Encoded → Encoded
-encodedUnless zero e = e
-encodedUnless (suc number) e = encoded (suc number) 0 0
-
--- else what writing the table answers, with the body as the store
+-- what writing the table answers, with the body as the store; where the reading is refused, its refusal and no length
 abbrev pub again : LogItemBatch → List ℕ → List ℕ → Encoded
-again t body out = encodedUnless (t .refusal .number) (encodedOf (measureOf body false (listed t) (tableLengths t)) out 0)
+again t body out =
+    let r = t .refusal .number in
+    ifNone r (encodedOf (measureOf body false (listed t) (tableLengths t)) out 0) (encoded r 0 0)
 
 -- the length
 abbrev pub lengthReply : Encoded → Reply
