@@ -33,7 +33,7 @@ openingBy p (rejected r i) = record { at = 0; count = 0; refusal = record { numb
 unfoldable pub openingOf : List ℕ → ℕ → Opening
 openingOf body signature = openingBy (afterCount (sealedPart body)) (readBody body signature)
 
--- a reader that stands atFirst the first item
+-- a reader that stands at the first item
 abbrev pub atFirst : RefT (List ℕ) → Opening → ItemReader
 atFirst body o = record { body = body; at = o .at; total = 0; used = 0; item = 0; count = o .count; refusal = o .refusal }
 

@@ -1,5 +1,5 @@
 -- What document 01 says of bodies and whole batches, read and written, proved of the definitions that the contracts cite; and its worked examples.
--- What it says of numbers and words stands in the Theorems.antt of numbers and of words, of one item in one_reading's Agree.antt.
+-- What it says of numbers and words stands in the Theorems.antt of numbers and of words, of one item in log_item's Agree.antt.
 -- Assumes nothing.
 use Prim.Native.Nat.{ℕ, _+_, _-_, _≤_, _^_, _<_, suc}
 use mathlib.Core.Path.{_≡_, refl, ap, _∙_, sym}

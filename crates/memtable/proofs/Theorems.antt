@@ -36,11 +36,11 @@ use Rattle.memtable.proofs.Fetches.{fetched-is, fetched-formed, whole-r
 use Rattle.memtable.proofs.Pasting.{before-same, behind-same, length-same, rewrite-front, append-back, append-falls, rewrite-rises}
 use Rattle.memtable.proofs.Outcomes.{kept, done, place, source, overlap, run, Outcomes, outcome, after-is, run-in-rows, run-in-source}
 
--- "An empty table is well formed for any first index when its count is 0."
+-- An empty table is well formed for any first index when its count is 0.
 pub empty-formed : (first : ℕ) → first < 2 ^ 64 → wellFormed [] (record { first = first; count = 0 }) ≡ true
 empty-formed first l = formed-of [] (record { first = first; count = 0 }) (omega arith) refl refl (omega (arith, l))
 
--- "No incoming rows are never a 27."
+-- No incoming rows are never a 27.
 pub none-ready : (first : ℕ) → first < 2 ^ 64 → ready [] first ≡ true
 none-ready first l = ready-of [] first refl (omega (arith, l))
 
@@ -219,7 +219,7 @@ pub one-after-other : (κs κs′ : Lfts 2) (a : Args rw-fn.signature κs) (b : 
 one-after-other κs κs′ a b x y s u first second on =
     (second .0 ∙ ap (λ (l : List Location). rewriteOf l (b .1 .0) (now (b .1 .1 .0)) (b .1 .1 .1 .0) (b .1 .1 .1 .1 .0)) (on ∙ first .1), second .1 ∙ ap (λ (l : List Location). rowsAfter l (b .1 .0) (now (b .1 .1 .0)) (b .1 .1 .1 .0) (b .1 .1 .1 .1 .0)) (on ∙ first .1))
 
--- "Indexes up to 2^64 - 1": one row of the append queue at the last index, rewritten by one at the last index; and two rows from there are a 26, two incoming ones a 27.
+-- Indexes up to 2^64 - 1: one row of the append queue at the last index, rewritten by one at the last index; and two rows from there are a 26, two incoming ones a 27.
 pub at-last-index : (rewriteOf Appended last Incoming 18446744073709551615 (Gate.Given 1) ≡ record { number = 0; replaced = 1; count = 1 }) × ((rowsAfter Appended last Incoming 18446744073709551615 (Gate.Given 1) ≡ Incoming) × (fetchOf Appended last 1 ≡ record { number = 0; place = 0; len = 1 }))
 unfolding rewriteOf rowsAfter fetchOf fetched answered wellFormed ready
 at-last-index = (refl, (refl, refl))

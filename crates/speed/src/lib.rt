@@ -1,4 +1,4 @@
-// The check without a checksum, the stepping reader and the table by value on numbers and bytes: a static library for compare/bench alone.
+// The check without a checksum and the stepping reader on numbers and bytes: a static library for compare/bench alone.
 //
 // Each function returns 0, a refusal's number or END, and sets `answer` at each call.
 ghost use mathlib.Core.Path.{_≡_};
