@@ -20,6 +20,7 @@ use log_item::HeadRead;
 use log_item::LogItem;
 use log_item::TailRead;
 use refusal::Refusal;
+use seal::content_len;
 
 // Where the rows of an item stand that are still to be read: the place of the next tail, the total before it, the index of its entry,
 // and how many there are. Where none is left the index names no entry: it is the one after the last, which may have come round to 0.
@@ -152,7 +153,7 @@ pub fn next_row(body: &[u8], rows: EntryRows) -> RowRead
     }
     let total = rows.total;
     let index = rows.index;
-    let n = before_footer(body.len());
+    let n = content_len(body.len());
     match EntryIndexes::decode_tail(&body[..n], rows.at, total, Form::Any) {
         TailRead::Done { total: after, next } => RowRead::Row {
             row: EntryIndex {
@@ -171,13 +172,6 @@ pub fn next_row(body: &[u8], rows: EntryRows) -> RowRead
     }
 }
 
-// How many of so many bytes stand before the footer.
-fn before_footer(len: usize) -> usize
-    ensures { λ r. ⌜ r ≡ len - 4 ⌝ }
-{
-    if len < 4 { 0 } else { len - 4 }
-}
-
 // The place of the first item of a body, and the number of its items; or why the body is refused.
 fn open_body(body: &[u8], signature: u32) -> Opening
     ensures { λ r. ⌜ r ≡ openingOf (now (body .entry)) signature ⌝ }
@@ -189,7 +183,7 @@ fn open_body(body: &[u8], signature: u32) -> Opening
             total: _,
             next: _,
         } => {
-            let n = before_footer(body.len());
+            let n = content_len(body.len());
             Opening {
                 at: after_count(&body[..n]),
                 count: items,
@@ -225,7 +219,7 @@ fn step_at(
     if count <= item {
         return stay(at, total, used, item, Next::End);
     }
-    let n = before_footer(body.len());
+    let n = content_len(body.len());
     match read_item(&body[..n], at, total, used) {
         Stepped::Done {
             item: found,

@@ -22,11 +22,11 @@ stay-requires-2 c κs = search needs
 returns-2 : tie.Need-returns-2
 returns-2 c = step-end _ _ _ _ _ _ _ (c .before .before .if1 .left) (c .before .if2 .taken) (c .stay2 .ensures)
 
-before-footer-requires : tie.Need-before-footer-requires
-before-footer-requires c κs = search needs
+content-len-requires : tie.Need-content-len-requires
+content-len-requires c κs = search needs
 
 slice-aggregate-read-item : tie.Need-slice-aggregate-read-item
-slice-aggregate-read-item c = sym (length-take-le _ _ (omega (arith, c .before .before-footer .ensures)))
+slice-aggregate-read-item c = sym (length-take-le _ _ (omega (arith, c .before .content-len .ensures)))
 
 read-item-requires : tie.Need-read-item-requires
 read-item-requires c κs = search needs
@@ -44,10 +44,10 @@ stay-requires-3 : tie.Need-stay-requires-3
 stay-requires-3 c κs = search needs
 
 returns-3 : tie.Need-returns-3
-returns-3 c = step-over _ _ _ _ _ _ _ (c .before .before .before .before .before .before .before .if1 .left) (c .before .before .before .before .before .before .if2 .left) (c .before .before .before .before .before .before-footer .ensures) (learnt foundGot (c .before .before .before .read-item .ensures) (c .before .found .given .1))
+returns-3 c = step-over _ _ _ _ _ _ _ (c .before .before .before .before .before .before .before .if1 .left) (c .before .before .before .before .before .before .if2 .left) (c .before .before .before .before .before .content-len .ensures) (learnt foundGot (c .before .before .before .read-item .ensures) (c .before .found .given .1))
 
 returns-4 : tie.Need-returns-4
-returns-4 c = step-broken _ _ _ _ _ _ _ (c .before .before .before .before .before .before .before .before .if1 .left) (c .before .before .before .before .before .before .before .if2 .left) (c .before .before .before .before .before .before .before-footer .ensures) (learnt foundGot (c .before .before .before .before .read-item .ensures) (c .before .before .number .given .1)) (c .stay3 .ensures)
+returns-4 c = step-broken _ _ _ _ _ _ _ (c .before .before .before .before .before .before .before .before .if1 .left) (c .before .before .before .before .before .before .before .if2 .left) (c .before .before .before .before .before .before .content-len .ensures) (learnt foundGot (c .before .before .before .before .read-item .ensures) (c .before .before .number .given .1)) (c .stay3 .ensures)
 
 pub step-at-spec : {M : Type 1} → statement M
 step-at-spec =
@@ -57,7 +57,7 @@ step-at-spec =
     returns
     stay-requires-2
     returns-2
-    before-footer-requires
+    content-len-requires
     slice-aggregate-read-item
     read-item-requires
     enum-known-found
