@@ -14,6 +14,8 @@ use location_rules::Gate;
 use location_rules::Rewritten;
 use location_rules::Stop;
 use location_rules::Table;
+use location_rules::no_run;
+use location_rules::unchanged;
 use pipe_log::Location;
 use pipe_log::LogQueue;
 
@@ -66,11 +68,7 @@ pub fn fetch(table: &[u64], first_index: u64, rewritten: u64, gate: u64) -> Fetc
         return location_rules::run_from(false, t, 0, 0);
     }
     if 64 < n {
-        return Fetched {
-            number: refusal::OUTPUT_SHORT,
-            place: 0,
-            len: 0,
-        };
+        return no_run(refusal::OUTPUT_SHORT);
     }
     let end = scan(table, count, n, Stop::Above(gate));
     location_rules::run_from(true, t, count, end)
@@ -168,22 +166,12 @@ fn limit(n: usize, m: usize, table: Table, r: Rewritten) -> Rewritten
         return r;
     }
     if 64 < n {
-        return too_many(table.count);
+        return unchanged(refusal::OUTPUT_SHORT, table.count);
     }
     if 64 < m {
-        return too_many(table.count);
+        return unchanged(refusal::OUTPUT_SHORT, table.count);
     }
     r
-}
-
-fn too_many(count: usize) -> Rewritten
-    ensures { λ a. ⌜ a ≡ record { number = 21; replaced = 0; count = count } ⌝ }
-{
-    Rewritten {
-        number: refusal::OUTPUT_SHORT,
-        replaced: 0,
-        count,
-    }
 }
 
 // Puts len incoming words, those from `from` on, in the place of the words from `at` on.

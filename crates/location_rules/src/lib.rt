@@ -4,7 +4,7 @@ ghost use mathlib.Core.Path.{_≡_};
 ghost use Prim.Native.Nat.{_+_, _-_, _<_, max};
 ghost use Rattle.location_rules.specs.Row.{stopsAt};
 ghost use Rattle.location_rules.specs.Parts.{indexesFit, wellFormedBy, readyBy, overlapAt, overlapOf};
-ghost use Rattle.location_rules.specs.Decisions.{stopOf, answered, fetched};
+ghost use Rattle.location_rules.specs.Decisions.{stopOf, answered, noRun, fetched};
 use pipe_log::Location;
 use pipe_log::LogQueue;
 use words::least;
@@ -200,7 +200,8 @@ pub fn decide(
     }
 }
 
-fn unchanged(number: u32, count: usize) -> Rewritten
+// The answer to a rewrite that changes no row and leaves the count: refused with this number, or 0.
+pub fn unchanged(number: u32, count: usize) -> Rewritten
     ensures { λ r. ⌜ r ≡ record { number = number; replaced = 0; count = count } ⌝ }
 {
     Rewritten {
@@ -225,16 +226,23 @@ pub fn run_from(formed: bool, table: Table, start: usize, end: usize) -> Fetched
     ensures { λ r. ⌜ r ≡ fetched formed table (end - start) ⌝ }
 {
     if !formed {
-        return Fetched {
-            number: refusal::TABLE_BROKEN,
-            place: 0,
-            len: 0,
-        };
+        return no_run(refusal::TABLE_BROKEN);
     }
     let reached = larger(start, end);
     Fetched {
         number: refusal::NONE,
         place: table.count,
         len: reached - start,
+    }
+}
+
+// The answer to a fetch that is refused with this number.
+pub fn no_run(number: u32) -> Fetched
+    ensures { λ r. ⌜ r ≡ noRun number ⌝ }
+{
+    Fetched {
+        number,
+        place: 0,
+        len: 0,
     }
 }

@@ -7,6 +7,8 @@ use location_rules::Fetched;
 use location_rules::Gate;
 use location_rules::Rewritten;
 use location_rules::Table;
+use location_rules::no_run;
+use location_rules::unchanged;
 use pipe_log::Location;
 
 // The rows after a rewrite of the first `len` rows by the first `count` incoming ones. More than 64 of either: as they were.
@@ -81,33 +83,19 @@ fn answer(len: usize, count: usize, table: Table, r: Rewritten) -> Rewritten
     ensures { λ a. ⌜ a ≡ answerOf len count table r ⌝ }
 {
     if 64 < len {
-        return too_many(table.count);
+        return unchanged(refusal::OUTPUT_SHORT, table.count);
     }
     if 64 < count {
-        return too_many(table.count);
+        return unchanged(refusal::OUTPUT_SHORT, table.count);
     }
     r
-}
-
-fn too_many(count: usize) -> Rewritten
-    ensures { λ a. ⌜ a ≡ record { number = 21; replaced = 0; count = count } ⌝ }
-{
-    Rewritten {
-        number: refusal::OUTPUT_SHORT,
-        replaced: 0,
-        count,
-    }
 }
 
 fn fetched(len: usize, r: Fetched) -> Fetched
     ensures { λ a. ⌜ a ≡ fetchedOf len r ⌝ }
 {
     if 64 < len {
-        return Fetched {
-            number: refusal::OUTPUT_SHORT,
-            place: 0,
-            len: 0,
-        };
+        return no_run(refusal::OUTPUT_SHORT);
     }
     r
 }

@@ -1,5 +1,6 @@
 -- `location_rows::fetch` meets its contract: a law for each way out.
 -- Assumes nothing.
+use mathlib.Core.Path.{_∙_}
 use native.Mathlib.Nat.{le-refl}
 use Rattle.location_rows.proofs.Fetches.{fetch-broken, fetch-many, fetch-run}
 use Rattle.location_rows.proofs.Surveys.{count-within}
@@ -17,8 +18,11 @@ run-from-requires c κs = search needs
 returns : tie.Need-returns
 returns c = fetch-broken _ _ _ (c .before .before .is-well-formed .ensures) (not-true _ (c .before .if1 .taken)) (c .run-from .ensures)
 
+no-run-requires : tie.Need-no-run-requires
+no-run-requires c κs = search needs
+
 returns-2 : tie.Need-returns-2
-returns-2 c = fetch-many _ _ _ (c .before .before .is-well-formed .ensures) (not-false _ (c .before .if1 .left)) (c .if2 .taken)
+returns-2 c = c .no-run .ensures ∙ fetch-many _ _ _ (c .before .before .before .is-well-formed .ensures) (not-false _ (c .before .before .if1 .left)) (c .before .if2 .taken)
 
 scan-requires : tie.Need-scan-requires
 scan-requires c κs = (count-within _ _ (c .before .before .is-well-formed .ensures) (not-false _ (c .before .if1 .left)), le-refl _)
@@ -36,6 +40,7 @@ fetch-spec =
     is-well-formed-requires
     run-from-requires
     returns
+    no-run-requires
     returns-2
     scan-requires
     run-from-requires-2

@@ -8,17 +8,17 @@ use Rattle.location_rows.proofs.limit.Tie as tie
 returns : tie.Need-returns
 returns c = limit-refused _ _ _ _ (c .if1 .taken)
 
-too-many-requires : tie.Need-too-many-requires
-too-many-requires c κs = search needs
+unchanged-requires : tie.Need-unchanged-requires
+unchanged-requires c κs = search needs
 
 returns-2 : tie.Need-returns-2
-returns-2 c = limit-rows _ _ _ _ (c .before .before .if1 .left) (c .before .if2 .taken) (c .too-many .ensures)
+returns-2 c = limit-rows _ _ _ _ (c .before .before .if1 .left) (c .before .if2 .taken) (c .unchanged .ensures)
 
-too-many-requires-2 : tie.Need-too-many-requires-2
-too-many-requires-2 c κs = search needs
+unchanged-requires-2 : tie.Need-unchanged-requires-2
+unchanged-requires-2 c κs = search needs
 
 returns-3 : tie.Need-returns-3
-returns-3 c = limit-incoming _ _ _ _ (c .before .before .before .if1 .left) (c .before .before .if2 .left) (c .before .if3 .taken) (c .too-many2 .ensures)
+returns-3 c = limit-incoming _ _ _ _ (c .before .before .before .if1 .left) (c .before .before .if2 .left) (c .before .if3 .taken) (c .unchanged2 .ensures)
 
 returns-4 : tie.Need-returns-4
 returns-4 c = limit-none _ _ _ _ (c .before .before .if1 .left) (c .before .if2 .left) (c .if3 .left)
@@ -26,4 +26,4 @@ returns-4 c = limit-none _ _ _ _ (c .before .before .if1 .left) (c .before .if2 
 pub limit-spec : {M : Type 1} → statement M
 limit-spec =
     tie.close
-    (tie.spec returns too-many-requires returns-2 too-many-requires-2 returns-3 returns-4)
+    (tie.spec returns unchanged-requires returns-2 unchanged-requires-2 returns-3 returns-4)

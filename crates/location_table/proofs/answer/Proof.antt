@@ -5,21 +5,21 @@ use borrow.Author.Needs.{needs}
 use Rattle.location_table.proofs.answer.Statement.{statement}
 use Rattle.location_table.proofs.answer.Tie as tie
 
-too-many-requires : tie.Need-too-many-requires
-too-many-requires c κs = search needs
+unchanged-requires : tie.Need-unchanged-requires
+unchanged-requires c κs = search needs
 
 returns : tie.Need-returns
-returns c = answer-many _ _ _ _ _ (c .before .if1 .taken) (c .too-many .ensures)
+returns c = answer-many _ _ _ _ _ (c .before .if1 .taken) (c .unchanged .ensures)
 
-too-many-requires-2 : tie.Need-too-many-requires-2
-too-many-requires-2 c κs = search needs
+unchanged-requires-2 : tie.Need-unchanged-requires-2
+unchanged-requires-2 c κs = search needs
 
 returns-2 : tie.Need-returns-2
-returns-2 c = answer-many-other _ _ _ _ _ (c .before .before .if1 .left) (c .before .if2 .taken) (c .too-many2 .ensures)
+returns-2 c = answer-many-other _ _ _ _ _ (c .before .before .if1 .left) (c .before .if2 .taken) (c .unchanged2 .ensures)
 
 returns-3 : tie.Need-returns-3
 returns-3 c = answer-whole _ _ _ _ (c .before .if1 .left) (c .if2 .left)
 
 pub answer-spec : {M : Type 1} → statement M
 answer-spec =
-    tie.close (tie.spec too-many-requires returns too-many-requires-2 returns-2 returns-3)
+    tie.close (tie.spec unchanged-requires returns unchanged-requires-2 returns-2 returns-3)
