@@ -41,6 +41,10 @@ pub ready-all : (incoming : List Location) (first : ℕ) → ready incoming firs
 unfolding ready
 ready-all incoming first e = both (all inRewrite incoming) _ e .0
 
+pub ready-fits : (incoming : List Location) (first : ℕ) → ready incoming first ≡ true → first + length incoming ≤ 18446744073709551616
+unfolding ready
+ready-fits incoming first e = leb-true (first + length incoming) 18446744073709551616 (both (all inRewrite incoming) _ e .1)
+
 -- without a gate, in a well-formed table, a run from within the rewritten rows ends with them
 pub run-short : (rows : List Location) (c p o k : ℕ) → p ≤ c → all inAppend (drop c rows) ≡ true → k ≡ runOf Stop.Append (take o (drop p rows)) → p + k ≤ c
 run-short rows c p o k l b e = omega (arith, e, run-part Stop.Append o (drop p rows), run-front (c - p) (drop p rows) (ap (all inAppend) (drop-drop (c - p) p rows ∙ ap (λ (n : ℕ). drop n rows) up) ∙ b), l)

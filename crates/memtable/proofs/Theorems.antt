@@ -31,7 +31,7 @@ use Rattle.memtable.proofs.rewrite as rw-fn
 use Rattle.memtable.proofs.Queues.{all-take, all-drop}
 use Rattle.memtable.proofs.RunLaws.{run-over}
 use Rattle.memtable.proofs.Surveys.{formed-count}
-use Rattle.memtable.proofs.Tables.{formed-parts, formed-of, ready-all, ready-of, run-short, rest-rewrite, reaches, no-farther, larger, later, none-more}
+use Rattle.memtable.proofs.Tables.{formed-parts, formed-of, ready-all, ready-fits, ready-of, run-short, rest-rewrite, reaches, no-farther, larger, later, none-more}
 use Rattle.memtable.proofs.Fetches.{fetched-is, fetched-formed, whole-run}
 use Rattle.memtable.proofs.Pasting.{before-same, behind-same, length-same, rewrite-front, append-back, append-falls, rewrite-rises}
 use Rattle.memtable.proofs.Outcomes.{kept, done, place, source, overlap, run, Outcomes, outcome, after-is, run-in-rows, run-in-source}
@@ -219,7 +219,21 @@ pub one-after-other : (κs κs′ : Lfts 2) (a : Args rw-fn.signature κs) (b : 
 one-after-other κs κs′ a b x y s u first second on =
     (second .0 ∙ ap (λ (l : List Location). rewriteOf l (b .1 .0) (now (b .1 .1 .0)) (b .1 .1 .1 .0) (b .1 .1 .1 .1 .0)) (on ∙ first .1), second .1 ∙ ap (λ (l : List Location). rowsAfter l (b .1 .0) (now (b .1 .1 .0)) (b .1 .1 .1 .0) (b .1 .1 .1 .1 .0)) (on ∙ first .1))
 
--- Indexes up to 2^64 - 1: one row of the append queue at the last index, rewritten by one at the last index; and two rows from there are a 26, two incoming ones a 27.
+-- Indexes up to 2^64 - 1. A table whose last index is that is well formed where its queues are right, and incoming rows that end there are taken where each is in the rewrite queue; what goes past it is not.
+pub formed-at-last : (rows : List Location) (t : Table) → t .count ≤ length rows → all inRewrite (take (t .count) rows) ≡ true → all inAppend (drop (t .count) rows) ≡ true
+    → t .first + length rows ≡ 2 ^ 64 → wellFormed rows t ≡ true
+formed-at-last rows t l a b e = formed-of rows t l a b (omega (arith, e))
+
+pub formed-not-past : (rows : List Location) (t : Table) → wellFormed rows t ≡ true → t .first + length rows ≤ 2 ^ 64
+formed-not-past rows t e = omega (arith, formed-parts rows t e .1 .1)
+
+pub ready-at-last : (incoming : List Location) (first : ℕ) → all inRewrite incoming ≡ true → first + length incoming ≡ 2 ^ 64 → ready incoming first ≡ true
+ready-at-last incoming first a e = ready-of incoming first a (omega (arith, e))
+
+pub ready-not-past : (incoming : List Location) (first : ℕ) → ready incoming first ≡ true → first + length incoming ≤ 2 ^ 64
+ready-not-past incoming first e = omega (arith, ready-fits incoming first e)
+
+-- So it is with one row of the append queue at the last index, rewritten by one at the last index; and two rows from there are a 26, two incoming ones a 27.
 pub at-last-index : (rewriteOf Appended last Incoming 18446744073709551615 (Gate.Given 1) ≡ record { number = 0; replaced = 1; count = 1 }) × ((rowsAfter Appended last Incoming 18446744073709551615 (Gate.Given 1) ≡ Incoming) × (fetchOf Appended last 1 ≡ record { number = 0; place = 0; len = 1 }))
 unfolding rewriteOf rowsAfter fetchOf fetched answered wellFormed ready
 at-last-index = (refl, (refl, refl))
