@@ -114,7 +114,7 @@ module _ (s : List ℕ) (checked : Bool) (xs : List LogItem) (ns : List ℕ) whe
         → unlessItem (contentRefusal s checked j (length ns) (x .content)) i (restVerdict s xs ns checked (i + 1) j (entriesOf (x .content) .count) t)
         ≡ itemsVerdict s checked xs ns 0 0 0
     told-now x z h e =
-        sym (rw e at (told-item s xs ns checked i j t h (omega (arith, m .room)))) ∙ sym (ap (λ (n : ℕ). restVerdict s xs ns checked i j n t) (none z))
+        sym (rw e at (told-item s xs ns checked i j t (m .low) h (omega (arith, m .room)))) ∙ sym (ap (λ (n : ℕ). restVerdict s xs ns checked i j n t) (none z))
         ∙ m .told
 
     -- an item
@@ -143,7 +143,7 @@ module _ (s : List ℕ) (checked : Bool) (xs : List LogItem) (ns : List ℕ) whe
 
     -- the end
     pub told-all : tails ≤ 0 → length xs ≤ i → itemsVerdict s checked xs ns 0 0 0 ≡ fine t
-    told-all z h = sym (m .told) ∙ ap (λ (n : ℕ). restVerdict s xs ns checked i j n t) (none z) ∙ told-end s xs ns checked i j t h
+    told-all z h = sym (m .told) ∙ ap (λ (n : ℕ). restVerdict s xs ns checked i j n t) (none z) ∙ told-end s xs ns checked i j t (m .low) h
 
     pub measuring-end : length xs ≤ 256 → first ≡ length (shortest (length xs)) → tails ≤ 0 → length xs ≤ i
         → measuredOf (fine t) size ≡ measureOf s checked xs ns

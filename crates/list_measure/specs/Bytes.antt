@@ -8,8 +8,7 @@ use Rattle.log_item.specs.Blank.{blankItem, blankEntry}
 use Rattle.log_item.specs.Entries.{entriesOf}
 use Rattle.log_item.specs.declared.LogItem.{LogItem}
 use Rattle.log_item.specs.declared.EntryIndex.{EntryIndex}
-use Rattle.log_item.specs.Bytes.{headBytes, tailsBytes}
-use Rattle.log_item.specs.Written.{rowLengths}
+use Rattle.log_item.specs.Written.{sumOf, rowLengths, itemBytes}
 
 -- the first n of a list, and d for each that it lacks, as reading outside an array would give
 abbrev pub firstRows : {A : Type 0} → A → ℕ → List A → List A
@@ -29,8 +28,8 @@ lengthsOf entries n = map (λ (r : EntryIndex). r .«entry_len») (firstRows bla
 unfoldable pub itemsBytes : List ℕ → List LogItem → List ℕ → ℕ → List ℕ
 itemsBytes s [] lengths t = []
 itemsBytes s (x ∷ xs) lengths t =
-    headBytes s x
-    ++ tailsBytes (rowLengths x lengths) t (λ u. itemsBytes s xs (drop (entriesOf (x .content) .count) lengths) u)
+    itemBytes s x lengths t
+    ++ itemsBytes s xs (drop (entriesOf (x .content) .count) lengths) (sumOf t (rowLengths x lengths))
 
 -- item count, items
 unfoldable pub listBytes : List ℕ → List LogItem → List ℕ → List ℕ

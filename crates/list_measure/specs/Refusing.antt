@@ -5,10 +5,11 @@ use mathlib.Core.Bool.{Bool, cond}
 use mathlib.Core.List.{List, [], _∷_}
 use lib.Dec.{ltb}
 use lib.ListN.{length, drop}
+use Rattle.refusal.specs.First.{firstOf}
 use Rattle.log_item.specs.Entries.{entriesOf}
 use Rattle.log_item.specs.declared.LogItem.{LogItem}
 use Rattle.log_item.specs.Refusing.{contentRefusal}
-use Rattle.log_item.specs.Written.{rowLengths}
+use Rattle.log_item.specs.Written.{sumOf, rowLengths, tailRefusal}
 
 -- the entry total; or a refusal's number and its item
 pub data Verdict : Type 0 where
@@ -20,18 +21,13 @@ abbrev pub unlessItem : ℕ → ℕ → Verdict → Verdict
 unlessItem zero k v = v
 unlessItem (suc r) k v = refused (suc r) k
 
--- 16 for each tail of item k, the total running on, and what follows them
-unfoldable pub tailsVerdict : List ℕ → ℕ → ℕ → (ℕ → Verdict) → Verdict
-tailsVerdict [] k t rest = rest t
-tailsVerdict (n ∷ lengths) k t rest = cond (ltb 4294967295 (t + n)) (refused 16 k) (tailsVerdict lengths k (t + n) rest)
-
--- the items in order, the first of them with number k: `used` rows are behind, `lengths` are left
+-- the items in order, the first of them with number k: `used` rows are behind, `lengths` are left, the total t runs on
 unfoldable pub itemsVerdict : List ℕ → Bool → List LogItem → List ℕ → ℕ → ℕ → ℕ → Verdict
 itemsVerdict s checked [] lengths used k t = fine t
 itemsVerdict s checked (x ∷ xs) lengths used k t =
-    unlessItem (contentRefusal s checked used (used + length lengths) (x .content)) k
-    (tailsVerdict (rowLengths x lengths) k t
-    (λ u. itemsVerdict s checked xs (drop (entriesOf (x .content) .count) lengths) (used + entriesOf (x .content) .count) (k + 1) u))
+    unlessItem (firstOf (contentRefusal s checked used (used + length lengths) (x .content)) (tailRefusal x lengths t)) k
+    (itemsVerdict s checked xs (drop (entriesOf (x .content) .count) lengths) (used + entriesOf (x .content) .count) (k + 1)
+    (sumOf t (rowLengths x lengths)))
 
 -- 9, then the items
 unfoldable pub listVerdict : List ℕ → Bool → List LogItem → List ℕ → Verdict

@@ -110,7 +110,7 @@ module _ {s : List ℕ} {xs : List LogItem} {ns out₀ : List ℕ} {start : ℕ}
       × (restVerdict s xs ns (w .checked) (i + 1) j (entriesOf (x .content) .count) t ≡ fine (w .total))
   item-told x z h e =
       unless-fine _ i _ (w .total)
-      (sym (rw e at (told-item s xs ns (w .checked) i j t h (omega (arith, w .room)))) ∙ sym (ap (λ (n : ℕ). restVerdict s xs ns (w .checked) i j n t) (none z))
+      (sym (rw e at (told-item s xs ns (w .checked) i j t (w .low) h (omega (arith, w .room)))) ∙ sym (ap (λ (n : ℕ). restVerdict s xs ns (w .checked) i j n t) (none z))
       ∙ w .told)
 
   item-room : (x : LogItem) → tails ≤ 0 → i < length xs → getD xs i blankItem ≡ x → Room out at (headBytes s x)

@@ -12,7 +12,7 @@ use Rattle.words.proofs.Writing.{room-for}
 use Rattle.log_item.specs.Entries.{entriesOf}
 use Rattle.log_item.specs.declared.EntryIndexes.{EntryIndexes}
 use Rattle.log_item.specs.declared.LogItem.{LogItem}
-use Rattle.log_item.specs.Bytes.{headBytes}
+use Rattle.log_item.specs.Bytes.{headBytes, tailsBytes}
 use Rattle.log_item.specs.Refusing.{contentInside, contentRefusal}
 use Rattle.refusal.specs.First.{firstOf}
 use Rattle.log_item.specs.Written.{capped, headOf, measureItem, sumOf, rowLengths, itemBytes, itemRefusal, itemWrote, itemPlaced}
@@ -25,7 +25,7 @@ use Rattle.log_item.specs.declared.ItemWrote.the-variants as item
 use Rattle.log_item.proofs.Stores.{room-first, room-then, room-told, short-told, stored-then}
 use Rattle.log_item.proofs.Lengths.{head-length}
 use Rattle.log_item.proofs.Refusals.{content-inside, content-allowed}
-use Rattle.log_item.proofs.Tails.{tailsOf, size-over, size-fine}
+use Rattle.log_item.proofs.Tails.{size-over, size-fine}
 
 refused-head : (n a b : ℕ) → (n ≡ 0 → ⊥) → head.Refused n ≡ headOf n a b
 refused-head zero a b h = absurd (h refl)
@@ -84,14 +84,14 @@ module _ (s : List ℕ) (x : LogItem) (lengths : List ℕ) (t : ℕ) (out : List
 
         module _ {len total : ℕ} (f : r ≡ Fine len total) {a b : ℕ} {g : Bool} (u : a ≡ fitted (headLength x)) (v : b ≡ fitted (a + len))
             (w : g ≡ leb (at + b) (length out)) (small : length out < 18446744073709551615) where
-          sized : (sumOf t (rowLengths x lengths) ≤ 4294967295) × (len ≡ fitted (length (tailsOf (rowLengths x lengths) t))) × (total ≡ sumOf t (rowLengths x lengths))
+          sized : (sumOf t (rowLengths x lengths) ≤ 4294967295) × (len ≡ fitted (length (tailsBytes (rowLengths x lengths) t))) × (total ≡ sumOf t (rowLengths x lengths))
           sized = rw rows at (size-fine _ t q f)
 
-          long : length (itemBytes s x lengths t) ≡ headLength x + length (tailsOf (rowLengths x lengths) t)
+          long : length (itemBytes s x lengths t) ≡ headLength x + length (tailsBytes (rowLengths x lengths) t)
           unfolding itemBytes
-          long = omega (arith, length-append (headBytes s x) (tailsOf (rowLengths x lengths) t), head-length s x lies)
+          long = omega (arith, length-append (headBytes s x) (tailsBytes (rowLengths x lengths) t), head-length s x lies)
 
-          fit : b ≡ fitted (headLength x + length (tailsOf (rowLengths x lengths) t))
+          fit : b ≡ fitted (headLength x + length (tailsBytes (rowLengths x lengths) t))
           fit = omega (arith, sized .1)
 
           pub encode-short : g ≡ false → Answered s x lengths t out at (item.Refused 21) out
@@ -109,11 +109,11 @@ module _ (s : List ℕ) (x : LogItem) (lengths : List ℕ) (t : ℕ) (out : List
             head-ready = (lies, room-first _ _ room)
 
             module _ {m : ℕ} {mid : List ℕ} (y : Stored out at (headBytes s x) m mid) where
-              pub tails-ready : (d .count ≤ length lengths) × (sumOf t (take (d .count) lengths) ≤ 4294967295) × Room mid m (tailsOf (take (d .count) lengths) t)
+              pub tails-ready : (d .count ≤ length lengths) × (sumOf t (take (d .count) lengths) ≤ 4294967295) × Room mid m (tailsBytes (take (d .count) lengths) t)
               unfolding itemBytes
               tails-ready = (rows-lent, rw rows (sized .0), rw rows (room-then _ y room))
 
-              pub encode-done : {k : ℕ} {later : List ℕ} → Stored mid m (tailsOf (take (d .count) lengths) t) k later
+              pub encode-done : {k : ℕ} {later : List ℕ} → Stored mid m (tailsBytes (take (d .count) lengths) t) k later
                   → Answered s x lengths t out at (item.Next k total) later
               unfolding itemRefusal itemBytes
               encode-done {k} {later} y' =

@@ -18,10 +18,6 @@ use Rattle.log_item.specs.declared.TailsSize.{TailsSize}
 use Rattle.log_item.specs.declared.TailsSize.the-variants.{Fine, TooLarge}
 use Rattle.log_item.proofs.Stores.{stored-none, stored-length, stored-then, stored-same, room-then, room-first, room-same}
 
--- Tails and nothing behind them
-abbrev pub tailsOf : List ℕ → ℕ → List ℕ
-tailsOf lengths t = tailsBytes lengths t (λ u. [])
-
 -- A total is never below what it started from
 pub sum-rises : (t : ℕ) (lengths : List ℕ) → t ≤ sumOf t lengths
 unfolding sumOf
@@ -34,15 +30,15 @@ pub record Sizing (lengths : List ℕ) (count before total len i : ℕ) : Type 0
   pub low : total ≤ 4294967295
   pub fit : len ≤ 18446744073709551615
   pub sum : sumOf total (drop i (take count lengths)) ≡ sumOf before (take count lengths)
-  pub size : fitted (len + length (tailsOf (drop i (take count lengths)) total)) ≡ fitted (length (tailsOf (take count lengths) before))
+  pub size : fitted (len + length (tailsBytes (drop i (take count lengths)) total)) ≡ fitted (length (tailsBytes (take count lengths) before))
 
 -- What is stored behind what was, from the total `before` on
 pub record Putting (lengths : List ℕ) (count before : ℕ) (out₀ : List ℕ) (start : ℕ) (out : List ℕ) (total at i : ℕ) : Type 0 where
   pub most : i ≤ count
   pub same : length out ≡ length out₀
   pub sum : sumOf total (drop i (take count lengths)) ≡ sumOf before (take count lengths)
-  pub room : Room out at (tailsOf (drop i (take count lengths)) total)
-  pub left : {n : ℕ} {later : List ℕ} → Stored out at (tailsOf (drop i (take count lengths)) total) n later → Stored out₀ start (tailsOf (take count lengths) before) n later
+  pub room : Room out at (tailsBytes (drop i (take count lengths)) total)
+  pub left : {n : ℕ} {later : List ℕ} → Stored out at (tailsBytes (drop i (take count lengths)) total) n later → Stored out₀ start (tailsBytes (take count lengths) before) n later
 
 module _ (lengths : List ℕ) (count : ℕ) (enough : count ≤ length lengths) where
   all-length : length (take count lengths) ≡ count
@@ -61,7 +57,7 @@ module _ (lengths : List ℕ) (count : ℕ) (enough : count ≤ length lengths) 
   step-sum i t h = rw (step i h)
 
   step-bytes : (i t : ℕ) → i < count
-      → tailsOf (drop i (take count lengths)) t ≡ shortest (t + getD lengths i 0) ++ tailsOf (drop (i + 1) (take count lengths)) (t + getD lengths i 0)
+      → tailsBytes (drop i (take count lengths)) t ≡ shortest (t + getD lengths i 0) ++ tailsBytes (drop (i + 1) (take count lengths)) (t + getD lengths i 0)
   unfolding tailsBytes
   step-bytes i t h = rw (step i h)
 
@@ -86,18 +82,18 @@ module _ (lengths : List ℕ) (count : ℕ) (enough : count ≤ length lengths) 
           fit = omega arith;
           sum = sym (step-sum i total h) ∙ w .sum;
           size =
-              omega (arith, w .size, ap length (step-bytes i total h), length-append (shortest v) (tailsOf (drop (i + 1) (take count lengths)) v));
+              omega (arith, w .size, ap length (step-bytes i total h), length-append (shortest v) (tailsBytes (drop (i + 1) (take count lengths)) v));
         }
 
     pub sizing-end : count ≤ i → Fine len total ≡ tailsSize (take count lengths) before
     unfolding tailsSize sumOf tailsBytes
     sizing-end h =
         let s : total ≡ sumOf before (take count lengths) = ap (sumOf total) (sym (done i h)) ∙ w .sum in
-        let z : fitted (len + 0) ≡ fitted (length (tailsOf (take count lengths) before)) = rw (done i h) at (w .size) in
-        let l : len ≡ fitted (length (tailsOf (take count lengths) before)) = omega arith in
+        let z : fitted (len + 0) ≡ fitted (length (tailsBytes (take count lengths) before)) = rw (done i h) at (w .size) in
+        let l : len ≡ fitted (length (tailsBytes (take count lengths) before)) = omega arith in
         rw (le-ltb 4294967295 (sumOf before (take count lengths)) (omega arith), ← s, ← l)
 
-  pub putting-start : (before : ℕ) {out : List ℕ} {start : ℕ} → Room out start (tailsOf (take count lengths) before) → Putting lengths count before out start out before start 0
+  pub putting-start : (before : ℕ) {out : List ℕ} {start : ℕ} → Room out start (tailsBytes (take count lengths) before) → Putting lengths count before out start out before start 0
   putting-start before h = record { most = omega arith; same = refl; sum = refl; room = h; left = λ w. w }
 
   module _ {before : ℕ} {out₀ : List ℕ} {start : ℕ} {out : List ℕ} {total at i : ℕ} (w : Putting lengths count before out₀ start out total at i) where
@@ -118,9 +114,9 @@ module _ (lengths : List ℕ) (count : ℕ) (enough : count ≤ length lengths) 
           left = λ x. w .left (stored-same (step-bytes i total h) (stored-then put x));
         }
 
-    pub putting-end : count ≤ i → Stored out₀ start (tailsOf (take count lengths) before) at out
+    pub putting-end : count ≤ i → Stored out₀ start (tailsBytes (take count lengths) before) at out
     unfolding tailsBytes
-    putting-end h = w .left (stored-same (ap (λ (l : List ℕ). tailsOf l total) (done i h)) (stored-none out at))
+    putting-end h = w .left (stored-same (ap (λ (l : List ℕ). tailsBytes l total) (done i h)) (stored-none out at))
 
 -- What a size says.
 module _ (lengths : List ℕ) (t : ℕ) {r : TailsSize} (e : r ≡ tailsSize lengths t) where
@@ -128,16 +124,16 @@ module _ (lengths : List ℕ) (t : ℕ) {r : TailsSize} (e : r ≡ tailsSize len
   unfolding tailsSize
   size-over h = go (ltb 4294967295 (sumOf t lengths)) refl (sym h ∙ e)
     where
-      go : (b : Bool) → ltb 4294967295 (sumOf t lengths) ≡ b → TooLarge ≡ cond b TooLarge (Fine (fitted (length (tailsOf lengths t))) (sumOf t lengths))
+      go : (b : Bool) → ltb 4294967295 (sumOf t lengths) ≡ b → TooLarge ≡ cond b TooLarge (Fine (fitted (length (tailsBytes lengths t))) (sumOf t lengths))
           → 4294967295 < sumOf t lengths
       go true p q = ltb-true _ _ p
       go false p q = let z : _≡_ {A = ℕ} 0 1 = cc in absurd (omega arith)
 
-  pub size-fine : {len total : ℕ} → r ≡ Fine len total → (sumOf t lengths ≤ 4294967295) × (len ≡ fitted (length (tailsOf lengths t))) × (total ≡ sumOf t lengths)
+  pub size-fine : {len total : ℕ} → r ≡ Fine len total → (sumOf t lengths ≤ 4294967295) × (len ≡ fitted (length (tailsBytes lengths t))) × (total ≡ sumOf t lengths)
   unfolding tailsSize
   size-fine {len} {total} h = go (ltb 4294967295 (sumOf t lengths)) refl (sym h ∙ e)
     where
-      go : (b : Bool) → ltb 4294967295 (sumOf t lengths) ≡ b → Fine len total ≡ cond b TooLarge (Fine (fitted (length (tailsOf lengths t))) (sumOf t lengths))
-          → (sumOf t lengths ≤ 4294967295) × (len ≡ fitted (length (tailsOf lengths t))) × (total ≡ sumOf t lengths)
+      go : (b : Bool) → ltb 4294967295 (sumOf t lengths) ≡ b → Fine len total ≡ cond b TooLarge (Fine (fitted (length (tailsBytes lengths t))) (sumOf t lengths))
+          → (sumOf t lengths ≤ 4294967295) × (len ≡ fitted (length (tailsBytes lengths t))) × (total ≡ sumOf t lengths)
       go true p q = let z : _≡_ {A = ℕ} 0 1 = cc in absurd (omega arith)
       go false p q = (ltb-false _ _ p, cc, cc)

@@ -42,7 +42,7 @@ contentBytes s (contents.Kv k) = opBytes s (k .key) (k .op)
 unfoldable pub headBytes : List ℕ → LogItem → List ℕ
 headBytes s x = shortest (x .«raft_group_id») ++ (typeOf (x .content) ∷ contentBytes s (x .content))
 
--- a tail for each length, the total running on, and what follows them
-unfoldable pub tailsBytes : List ℕ → ℕ → (ℕ → List ℕ) → List ℕ
-tailsBytes [] t rest = rest t
-tailsBytes (n ∷ lengths) t rest = shortest (t + n) ++ tailsBytes lengths (t + n) rest
+-- a tail for each length, the total running on
+unfoldable pub tailsBytes : List ℕ → ℕ → List ℕ
+tailsBytes [] t = []
+tailsBytes (n ∷ lengths) t = shortest (t + n) ++ tailsBytes lengths (t + n)

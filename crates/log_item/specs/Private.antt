@@ -3,7 +3,7 @@
 use Prim.Native.Nat.{ℕ, _+_, _≤_, min}
 use mathlib.Core.Path.{_≡_}
 use mathlib.Core.Bool.{cond}
-use mathlib.Core.List.{List, []}
+use mathlib.Core.List.{List}
 use lib.Dec.{ltb}
 use lib.ListN.{length}
 use lib.Seq.{sets}
@@ -78,4 +78,4 @@ unfoldable pub headLength : LogItem → ℕ
 headLength x = length (shortest (x .«raft_group_id»)) + (1 + contentLength (x .content))
 
 unfoldable pub tailsSize : List ℕ → ℕ → TailsSize
-tailsSize lengths t = cond (ltb 4294967295 (sumOf t lengths)) TooLarge (Fine (fitted (length (tailsBytes lengths t (λ u. [])))) (sumOf t lengths))
+tailsSize lengths t = cond (ltb 4294967295 (sumOf t lengths)) TooLarge (Fine (fitted (length (tailsBytes lengths t))) (sumOf t lengths))

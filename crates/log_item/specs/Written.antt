@@ -55,13 +55,17 @@ rowLengths x lengths = take (entriesOf (x .content) .count) lengths
 
 -- the item and its tails
 unfoldable pub itemBytes : List ℕ → LogItem → List ℕ → ℕ → List ℕ
-itemBytes s x lengths t = headBytes s x ++ tailsBytes (rowLengths x lengths) t (λ u. [])
+itemBytes s x lengths t = headBytes s x ++ tailsBytes (rowLengths x lengths) t
+
+-- 16 where a tail is above 4,294,967,295: no tail is below the one before it, so where the last is, the total after the item
+abbrev pub tailRefusal : LogItem → List ℕ → ℕ → ℕ
+tailRefusal x lengths t = cond (ltb 4294967295 (sumOf t (rowLengths x lengths))) 16 0
 
 -- 14, 13, 17 or 13, then 16, then 21
 unfoldable pub itemRefusal : List ℕ → LogItem → List ℕ → ℕ → List ℕ → ℕ → ℕ
 itemRefusal s x lengths t out at =
     firstOf (contentRefusal s false 0 (length lengths) (x .content))
-    (cond (ltb 4294967295 (sumOf t (rowLengths x lengths))) 16
+    (firstOf (tailRefusal x lengths t)
     (roomRefusal at (length (itemBytes s x lengths t)) (length out)))
 
 -- the place after the item and the total after it, or the refusal

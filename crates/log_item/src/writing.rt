@@ -256,8 +256,8 @@ fn put_part(span: Span, store: &[u8], out: &mut [u8], at: usize) -> usize
 
 // A tail for each of the first `count` lengths.
 fn put_tails(lengths: &[u32], count: usize, before: u32, out: &mut [u8], start: usize) -> usize
-    requires { ⌜ (count ≤ length (now lengths)) × (sumOf before (take count (now lengths)) ≤ 4294967295) × (Room (now out) start (tailsBytes (take count (now lengths)) before (λ u. []))) ⌝ }
-    ensures { λ r. ⌜ Stored (now (out .entry)) start (tailsBytes (take count (now (lengths .entry))) before (λ u. [])) r (now (out .exit)) ⌝ }
+    requires { ⌜ (count ≤ length (now lengths)) × (sumOf before (take count (now lengths)) ≤ 4294967295) × (Room (now out) start (tailsBytes (take count (now lengths)) before)) ⌝ }
+    ensures { λ r. ⌜ Stored (now (out .entry)) start (tailsBytes (take count (now (lengths .entry))) before) r (now (out .exit)) ⌝ }
 {
     let mut total = before;
     let mut at = start;

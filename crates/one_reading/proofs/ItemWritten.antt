@@ -37,11 +37,11 @@ use Rattle.log_item.specs.Bytes.{spanBytes, commandBytes, opBytes, entriesBytes
 use Rattle.field.specs.Prefix.{inside}
 use Rattle.log_item.specs.Refusing.{opInside, contentInside, contentRefusal}
 use Rattle.refusal.specs.First.{firstOf}
-use Rattle.log_item.specs.Written.{sumOf, rowLengths, itemBytes, itemRefusal}
+use Rattle.log_item.specs.Written.{sumOf, rowLengths, itemBytes, tailRefusal, itemRefusal}
 use Rattle.log_item.specs.Relocated.{spanAt, keyAt, stated, contentAt, itemAt, rowsFrom, itemRows, spansOf, numbersOf, Small, Writable}
 use Rattle.log_item.proofs.Lengths.{and-both, part-length, span-length}
 use Rattle.log_item.proofs.Refusals.{untaken, taken, content-inside, content-allowed}
-use Rattle.log_item.proofs.Tails.{tailsOf, sum-rises}
+use Rattle.log_item.proofs.Tails.{sum-rises}
 
 -- ---- pieces
 
@@ -71,7 +71,7 @@ content-written s p (contents.Kv k) h z = go (k .op) h z
         rw e at (put (span-written s (p + 1) (k .key) (both .0) a) (span-written s (p + 1 + length (spanBytes s (k .key))) v (both .1) b))
     go Del i (one a c) = delete (span-written s (p + 1) (k .key) i a)
 
-tails-written : (i t : ℕ) (lengths : List ℕ) → sumOf t lengths ≤ 4294967295 → Tails (NumberIn Plain) (length lengths) i (rowsFrom i t lengths) t (sumOf t lengths) (tailsOf lengths t)
+tails-written : (i t : ℕ) (lengths : List ℕ) → sumOf t lengths ≤ 4294967295 → Tails (NumberIn Plain) (length lengths) i (rowsFrom i t lengths) t (sumOf t lengths) (tailsBytes lengths t)
 unfolding sumOf tailsBytes rowsFrom
 tails-written i t [] h = no-more
 tails-written i t (n ∷ lengths) h =
@@ -205,7 +205,7 @@ module _ (s : List ℕ) (x : LogItem) (lengths : List ℕ) (t : ℕ) (w : Writab
       let f = placed-at out at (itemBytes s x lengths t) room in
       (read-item-at form e f few last, spans-kept f)
 
-first-none : (n r : ℕ) → firstOf n r ≡ 0 → (n ≡ 0) × (r ≡ 0)
+pub first-none : (n r : ℕ) → firstOf n r ≡ 0 → (n ≡ 0) × (r ≡ 0)
 first-none zero r h = (refl, h)
 first-none (suc n) r h = absurd (omega arith)
 
@@ -222,15 +222,16 @@ unfolding itemRefusal
 encode-accepted s x lengths t out at z h =
     let long : ℕ = at + length (itemBytes s x lengths t) in
     let a = first-none (contentRefusal s false 0 (length lengths) (x .content)) _ h in
-    let b = untaken (ltb 4294967295 (sumOf t (rowLengths x lengths))) 15 (cond (leb long (length out)) 0 21) (a .1) in
+    let b = first-none (tailRefusal x lengths t) (cond (leb long (length out)) 0 21) (a .1) in
     let c = taken (leb long (length out)) 20 0 (b .1) in
+    let d = untaken (ltb 4294967295 (sumOf t (rowLengths x lengths))) 15 0 (b .0) in
     let allowed = content-allowed s false 0 (length lengths) (x .content) (a .0) in
     record {
       writable = record {
         spans = content-inside s false 0 (length lengths) (x .content) (a .0);
         numbers = z;
         lent = omega (arith, allowed .lent (omega arith));
-        tails = ltb-false _ _ (b .0);
+        tails = ltb-false _ _ (d .0);
       };
       room = leb-true _ _ (c .0);
       few = omega (arith, allowed .few (omega arith));

@@ -1,68 +1,45 @@
--- What the body writer's answers tell its callers: the length is 0 exactly where a body is refused; what is written is the body, with each item
--- as it would be written alone and the total running on; and a refused body leaves the buffer as it was.
+-- What the body writer's answers tell its callers: the length is 0 exactly where a body is refused; what is written is the body; and a refused
+-- body leaves the buffer as it was.
 -- Assumes nothing.
 use Prim.Native.Nat.{ℕ, zero, suc, _+_, _≤_, _<_}
 use mathlib.Core.Path.{_≡_, refl, sym, ap, _∙_}
 use mathlib.Core.Bool.{Bool, true, false, cond}
-use mathlib.Core.List.{List, [], _∷_, _++_, append-assoc}
+use mathlib.Core.List.{List, [], _∷_}
 use native.Mathlib.Omega.{arith}
 use lib.Dec.{ltb, leb}
-use lib.ListN.{length, take, drop}
+use lib.ListN.{length, drop}
 use borrow.Author.Tests.{eq-eqb, ne-eqb, le-leb, leb-true, ltb-false}
-use Rattle.numbers.specs.Shortest.{shortest}
+use Rattle.refusal.specs.First.{firstOf}
 use Rattle.log_item.specs.Entries.{entriesOf}
 use Rattle.log_item.specs.declared.LogItem.{LogItem}
-use Rattle.log_item.specs.Bytes.{headBytes, tailsBytes}
 use Rattle.log_item.specs.Refusing.{contentRefusal}
-use Rattle.log_item.specs.Written.{sumOf, rowLengths, itemBytes}
+use Rattle.log_item.specs.Written.{sumOf, rowLengths, tailRefusal}
 use Rattle.list_measure.specs.declared.Measured.{Measured}
 use Rattle.list_writer.specs.declared.Encoded.{Encoded}
-use Rattle.list_measure.specs.Bytes.{itemsBytes, listBytes}
+use Rattle.list_measure.specs.Bytes.{listBytes}
 use Rattle.list_writer.specs.Bytes.{bodyBytes}
-use Rattle.list_measure.specs.Refusing.{Verdict, fine, refused, unlessItem, tailsVerdict, itemsVerdict, listVerdict}
+use Rattle.list_measure.specs.Refusing.{Verdict, fine, refused, unlessItem, itemsVerdict, listVerdict}
 use Rattle.list_measure.specs.Answers.{measured, measuredOf, measureOf}
 use Rattle.list_writer.specs.Answers.{encoded, encodedOf, laid}
-use Rattle.list_measure.proofs.Heads.{unless-fine, cond-fine}
+use Rattle.log_item.proofs.Refusals.{untaken}
+use Rattle.list_measure.proofs.Heads.{unless-fine}
 use Rattle.list_writer.proofs.Bodies.{accepted, body-length}
 use Rattle.one_reading.specs.Encoding.{Encodes, writes, leaves}
+use Rattle.one_reading.proofs.ItemWritten.{first-none}
 
 -- ---- items
 
-tails-split : (lengths : List ℕ) (t : ℕ) (rest : ℕ → List ℕ) → tailsBytes lengths t rest ≡ tailsBytes lengths t (λ u. []) ++ rest (sumOf t lengths)
-unfolding tailsBytes sumOf
-tails-split [] t rest = refl
-tails-split (n ∷ lengths) t rest =
-    ap (λ (l : List ℕ). shortest (t + n) ++ l) (tails-split lengths (t + n) rest)
-    ∙ sym (append-assoc (shortest (t + n)) (tailsBytes lengths (t + n) (λ u. [])) (rest (sumOf (t + n) lengths)))
-
--- An item is written as it would be alone, with the next of the lengths; the total behind its rows goes to the next item.
-pub items-split : (s : List ℕ) (x : LogItem) (xs : List LogItem) (ns : List ℕ) (t : ℕ)
-    → itemsBytes s (x ∷ xs) ns t ≡ itemBytes s x ns t ++ itemsBytes s xs (drop (entriesOf (x .content) .count) ns) (sumOf t (rowLengths x ns))
-unfolding itemsBytes itemBytes
-items-split s x xs ns t =
-    let n = entriesOf (x .content) .count in
-    ap (λ (l : List ℕ). headBytes s x ++ l) (tails-split (take n ns) t (λ u. itemsBytes s xs (drop n ns) u))
-    ∙ sym (append-assoc (headBytes s x) (tailsBytes (take n ns) t (λ u. [])) (itemsBytes s xs (drop n ns) (sumOf t (take n ns))))
-
-tails-fine : (lengths : List ℕ) (k t u : ℕ) (rest : ℕ → Verdict) → t ≤ 4294967295 → tailsVerdict lengths k t rest ≡ fine u
-    → (sumOf t lengths ≤ 4294967295) × (rest (sumOf t lengths) ≡ fine u)
-unfolding tailsVerdict sumOf
-tails-fine [] k t u rest h e = (h, e)
-tails-fine (n ∷ lengths) k t u rest h e =
-    let c = cond-fine (ltb 4294967295 (t + n)) 16 k (tailsVerdict lengths k (t + n) rest) u e in
-    tails-fine lengths k (t + n) u rest (ltb-false 4294967295 (t + n) (c .0)) (c .1)
-
 -- Where no item is refused, the first is not, its tails fit, and the others are not refused behind it.
-pub items-fine : (s : List ℕ) (checked : Bool) (x : LogItem) (xs : List LogItem) (ns : List ℕ) (used k t u : ℕ) → t ≤ 4294967295
+pub items-fine : (s : List ℕ) (checked : Bool) (x : LogItem) (xs : List LogItem) (ns : List ℕ) (used k t u : ℕ)
     → itemsVerdict s checked (x ∷ xs) ns used k t ≡ fine u
     → (contentRefusal s checked used (used + length ns) (x .content) ≡ 0) × (sumOf t (rowLengths x ns) ≤ 4294967295)
     × (itemsVerdict s checked xs (drop (entriesOf (x .content) .count) ns) (used + entriesOf (x .content) .count) (k + 1) (sumOf t (rowLengths x ns)) ≡ fine u)
 unfolding itemsVerdict
-items-fine s checked x xs ns used k t u h e =
-    let n = entriesOf (x .content) .count in
-    let a = unless-fine (contentRefusal s checked used (used + length ns) (x .content)) k _ u e in
-    let b = tails-fine (take n ns) k t u (λ u. itemsVerdict s checked xs (drop n ns) (used + n) (k + 1) u) h (a .1) in
-    (a .0, b .0, b .1)
+items-fine s checked x xs ns used k t u e =
+    let a = unless-fine (firstOf (contentRefusal s checked used (used + length ns) (x .content)) (tailRefusal x ns t)) k _ u e in
+    let b = first-none (contentRefusal s checked used (used + length ns) (x .content)) (tailRefusal x ns t) (a .0) in
+    let c = untaken (ltb 4294967295 (sumOf t (rowLengths x ns))) 15 0 (b .1) in
+    (b .0, ltb-false _ _ (c .0), a .1)
 
 -- ---- a refusal's number is not 0
 
@@ -70,19 +47,13 @@ first : (b : Bool) (m k : ℕ) (v : Verdict) (n i : ℕ) → 0 < m → (v ≡ re
 first true m k v n i p f h = let q : m ≡ n = cc in omega arith
 first false m k v n i p f h = f h
 
-tails-number : (lengths : List ℕ) (k t : ℕ) (rest : ℕ → Verdict) (n i : ℕ) → ((u : ℕ) → rest u ≡ refused n i → 0 < n)
-    → tailsVerdict lengths k t rest ≡ refused n i → 0 < n
-unfolding tailsVerdict
-tails-number [] k t rest n i f e = f t e
-tails-number (l ∷ lengths) k t rest n i f e = first (ltb 4294967295 (t + l)) 16 k _ n i (omega arith) (λ h. tails-number lengths k (t + l) rest n i f h) e
-
 items-number : (s : List ℕ) (checked : Bool) (xs : List LogItem) (ns : List ℕ) (used k t n i : ℕ) → itemsVerdict s checked xs ns used k t ≡ refused n i → 0 < n
 unfolding itemsVerdict
 items-number s checked [] ns used k t n i e = absurd (let z : _≡_ {A = ℕ} 0 1 = cc in omega arith)
 items-number s checked (x ∷ xs) ns used k t n i e =
     let c = entriesOf (x .content) .count in
-    go (contentRefusal s checked used (used + length ns) (x .content)) _
-    (λ h. tails-number (take c ns) k t _ n i (λ u g. items-number s checked xs (drop c ns) (used + c) (k + 1) u n i g) h) e
+    go (firstOf (contentRefusal s checked used (used + length ns) (x .content)) (tailRefusal x ns t)) _
+    (λ h. items-number s checked xs (drop c ns) (used + c) (k + 1) _ n i h) e
   where
     go : (r : ℕ) (v : Verdict) → (v ≡ refused n i → 0 < n) → unlessItem r k v ≡ refused n i → 0 < n
     go zero v f h = f h

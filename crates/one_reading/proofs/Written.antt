@@ -48,7 +48,7 @@ use Rattle.list_measure.specs.Bytes.{firstRows, itemsOf, itemsBytes, listBytes}
 use Rattle.list_writer.specs.Bytes.{footed, bodyBytes}
 use Rattle.list_measure.specs.Refusing.{fine, itemsVerdict, listVerdict}
 use Rattle.list_measure.proofs.Heads.{cond-fine}
-use Rattle.one_reading.proofs.ListWritten.{items-split, items-fine, encodes}
+use Rattle.one_reading.proofs.ListWritten.{items-fine, encodes}
 use Rattle.item_batch.specs.declared.LogItemBatch.{LogItemBatch}
 use Rattle.body_check.specs.Reading.{accepted, rejected}
 use Rattle.seal.specs.Seal.{sealCheck}
@@ -98,49 +98,49 @@ module _ (s : List ℕ) (checked : Bool) (x : LogItem) (ns : List ℕ) (used t :
 
 module _ (s : List ℕ) (checked : Bool) where
   -- Items that are not refused are spelled, with their places worked out from the place p on, and their rows are within the limits.
-  pub items-written : (xs : List LogItem) (ns : List ℕ) (used k t u p : ℕ) → AllSmall xs → used ≤ 1024 → t ≤ 4294967295
+  pub items-written : (xs : List LogItem) (ns : List ℕ) (used k t u p : ℕ) → AllSmall xs → used ≤ 1024
       → itemsVerdict s checked xs ns used k t ≡ fine u
       → Items (NumberIn Plain) (itemsAt s xs ns p t) (rowsAt xs ns t) t u p (itemsBytes s xs ns t)
       × Each RowFits (rowsAt xs ns t)
       × (used + length (rowsAt xs ns t) ≤ 1024)
   unfolding itemsAt rowsAt itemsVerdict itemsBytes
-  items-written [] ns used k t u p none low small h = let e : t ≡ u = cc in rw e (end, none, omega arith)
-  items-written (x ∷ xs) ns used k t u p (one z zs) low small h =
-      let f = items-fine s checked x xs ns used k t u small h in
+  items-written [] ns used k t u p none low h = let e : t ≡ u = cc in rw e (end, none, omega arith)
+  items-written (x ∷ xs) ns used k t u p (one z zs) low h =
+      let f = items-fine s checked x xs ns used k t u h in
       let n : ℕ = entriesOf (x .content) .count in
-      let rest = items-written xs (drop n ns) (used + n) (k + 1) (sumOf t (rowLengths x ns)) u (p + length (itemBytes s x ns t)) zs (few s checked x ns used t z low (f .0) (f .1)) (f .1) (f .2) in
+      let rest = items-written xs (drop n ns) (used + n) (k + 1) (sumOf t (rowLengths x ns)) u (p + length (itemBytes s x ns t)) zs (few s checked x ns used t z low (f .0) (f .1)) (f .2) in
       let w = writable s checked x ns used t z low (f .0) (f .1) in
       let rows = rows-fit s checked x ns used t z low (f .0) (f .1) in
       let long = rows-length s checked x ns used t z low (f .0) (f .1) in (
-        rw items-split (then (written-item s x ns t w p) (rest .0)),
+        then (written-item s x ns t w p) (rest .0),
         each-append rows (rest .1),
         omega (arith, rest .2, long, length-append (itemRows x ns t) (rowsAt xs (drop n ns) (sumOf t (rowLengths x ns)))),
       )
 
   -- Where their bytes stand, their spans have the bytes that they had in the store.
-  pub items-kept : (xs : List LogItem) (ns : List ℕ) (used k t u : ℕ) → AllSmall xs → used ≤ 1024 → t ≤ 4294967295 → itemsVerdict s checked xs ns used k t ≡ fine u
+  pub items-kept : (xs : List LogItem) (ns : List ℕ) (used k t u : ℕ) → AllSmall xs → used ≤ 1024 → itemsVerdict s checked xs ns used k t ≡ fine u
       → {b : List ℕ} {p q : ℕ} → At b p q (itemsBytes s xs ns t) → keysAndContents b (itemsAt s xs ns p t) ≡ keysAndContents s xs
-  unfolding itemsAt
-  items-kept [] ns used k t u none low small h f = refl
-  items-kept (x ∷ xs) ns used k t u (one z zs) low small h {b} {p} f =
-      let g = items-fine s checked x xs ns used k t u small h in
+  unfolding itemsAt itemsBytes
+  items-kept [] ns used k t u none low h f = refl
+  items-kept (x ∷ xs) ns used k t u (one z zs) low h {b} {p} f =
+      let g = items-fine s checked x xs ns used k t u h in
       let n : ℕ = entriesOf (x .content) .count in
-      let c = cut (itemBytes s x ns t) (rw items-split at f) in
+      let c = cut (itemBytes s x ns t) f in
       let w = writable s checked x ns used t z low (g .0) (g .1) in
       let first = spans-kept s x ns t w (c .0) in
-      let rest = items-kept xs (drop n ns) (used + n) (k + 1) (sumOf t (rowLengths x ns)) u zs (few s checked x ns used t z low (g .0) (g .1)) (g .1) (g .2) (c .1) in
+      let rest = items-kept xs (drop n ns) (used + n) (k + 1) (sumOf t (rowLengths x ns)) u zs (few s checked x ns used t z low (g .0) (g .1)) (g .2) (c .1) in
       cc
 
   -- They are written in bytes where the store is bytes.
-  pub items-bytes : Bytes s → (xs : List LogItem) (ns : List ℕ) (used k t u : ℕ) → AllSmall xs → t ≤ 4294967295 → itemsVerdict s checked xs ns used k t ≡ fine u
+  pub items-bytes : Bytes s → (xs : List LogItem) (ns : List ℕ) (used k t u : ℕ) → AllSmall xs → itemsVerdict s checked xs ns used k t ≡ fine u
       → AllBytes (itemsBytes s xs ns t)
   unfolding itemsBytes
-  items-bytes bytes [] ns used k t u none small h = octets.end
-  items-bytes bytes (x ∷ xs) ns used k t u (one z zs) small h =
-      let f = items-fine s checked x xs ns used k t u small h in
+  items-bytes bytes [] ns used k t u none h = octets.end
+  items-bytes bytes (x ∷ xs) ns used k t u (one z zs) h =
+      let f = items-fine s checked x xs ns used k t u h in
       let n : ℕ = entriesOf (x .content) .count in
-      let rest = items-bytes bytes xs (drop n ns) (used + n) (k + 1) (sumOf t (rowLengths x ns)) u zs (f .1) (f .2) in
-      rw items-split (joined (item-bytes s bytes x ns t z (f .1)) rest)
+      let rest = items-bytes bytes xs (drop n ns) (used + n) (k + 1) (sumOf t (rowLengths x ns)) u zs (f .2) in
+      joined (item-bytes s bytes x ns t z (f .1)) rest
 
 items-length : (s : List ℕ) (xs : List LogItem) (ns : List ℕ) (p t : ℕ) → length (itemsAt s xs ns p t) ≡ length xs
 unfolding itemsAt
@@ -179,7 +179,7 @@ module _ (s : List ℕ) (checked : Bool) (xs : List LogItem) (ns : List ℕ) (to
   unfolding listBytes
   written-spelled =
       let few = told .0 in
-      let i = items-written s checked xs ns 0 0 0 total (length (shortest (length xs))) z (omega arith) (omega arith) (told .1) in
+      let i = items-written s checked xs ns 0 0 0 total (length (shortest (length xs))) z (omega arith) (told .1) in
       let same : length (bodyItems s xs ns) ≡ length xs = items-length s xs ns _ 0 in
       let small : length xs < 2 ^ 64 = omega arith in
       let count : NumberIn Plain (length (bodyItems s xs ns)) (shortest (length xs)) = rw same (small, refl) in
@@ -190,7 +190,7 @@ module _ (s : List ℕ) (checked : Bool) (xs : List LogItem) (ns : List ℕ) (to
   unfolding listBytes
   written-bytes bytes =
       let few = told .0 in
-      bytes-all (joined (shortest-bytes (length xs) (omega arith)) (items-bytes s checked bytes xs ns 0 0 0 total z (omega arith) (told .1)))
+      bytes-all (joined (shortest-bytes (length xs) (omega arith)) (items-bytes s checked bytes xs ns 0 0 0 total z (told .1)))
 
   -- The key and content bytes of each item in the body are those in the store.
   pub written-kept : (signature : ℕ) → keysAndContents (bodyBytes s xs ns signature) (bodyItems s xs ns) ≡ keysAndContents s xs
@@ -198,7 +198,7 @@ module _ (s : List ℕ) (checked : Bool) (xs : List LogItem) (ns : List ℕ) (to
   written-kept signature =
       let whole = at-front (listBytes s xs ns) (littleEndianBytes 4 (bitXor (crcOf (listBytes s xs ns)) signature)) in
       let c = rw zero-add at (cut (shortest (length xs)) whole .1) in
-      items-kept s checked xs ns 0 0 0 total z (omega arith) (omega arith) (told .1) c
+      items-kept s checked xs ns 0 0 0 total z (omega arith) (told .1) c
 
   module _ (bytes : Bytes s) where
     -- Reading a written body under its signature gives the list with its places worked out, its rows, the entry total and the place after the list.

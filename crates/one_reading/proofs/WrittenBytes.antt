@@ -21,7 +21,7 @@ use Rattle.log_item.specs.Bytes.{spanBytes, commandBytes, opBytes, entriesBytes
 use Rattle.log_item.specs.Written.{sumOf, rowLengths, itemBytes}
 use Rattle.log_item.specs.Each.{one}
 use Rattle.log_item.specs.Relocated.{numbersOf, Small}
-use Rattle.log_item.proofs.Tails.{tailsOf, sum-rises}
+use Rattle.log_item.proofs.Tails.{sum-rises}
 
 -- each is below 256
 pub data AllBytes : List ℕ → Type 0 where
@@ -54,7 +54,7 @@ pub shortest-bytes : (n : ℕ) → n < 2 ^ 64 → AllBytes (shortest n)
 unfolding shortest
 shortest-bytes n h = spell-bytes 9 n h
 
-tails-bytes : (t : ℕ) (lengths : List ℕ) → sumOf t lengths ≤ 4294967295 → AllBytes (tailsOf lengths t)
+tails-bytes : (t : ℕ) (lengths : List ℕ) → sumOf t lengths ≤ 4294967295 → AllBytes (tailsBytes lengths t)
 unfolding sumOf tailsBytes
 tails-bytes t [] h = end
 tails-bytes t (n ∷ lengths) h =
