@@ -1,12 +1,12 @@
 -- Which refusal each way out of the tests gives, and what holds where there is none.
 -- Assumes nothing.
-use Prim.Native.Nat.{ℕ, suc, _+_, _≤_, _<_}
+use Prim.Native.Nat.{ℕ, zero, suc, _+_, _≤_, _<_}
 use mathlib.Core.Path.{_≡_, refl, sym, _∙_}
 use mathlib.Core.Bool.{Bool, true, false, cond, _&&_}
 use mathlib.Core.List.{List}
 use native.Mathlib.Omega.{arith}
 use lib.Dec.{ltb, leb}
-use borrow.Author.Tests.{ltb-false, lt-ltb, le-ltb}
+use borrow.Author.Tests.{ltb-false, lt-ltb, le-ltb, leb-true, le-leb, lt-leb}
 use Rattle.refusal.specs.First.{firstOf}
 use Rattle.log_item.specs.Entries.{entriesOf}
 use Rattle.field.specs.Prefix.{prefix, begins, bytesOf}
@@ -20,8 +20,30 @@ use Rattle.log_item.specs.declared.LogItemContent.{LogItemContent}
 use Rattle.log_item.specs.declared.LogItemContent.the-variants as contents
 use Rattle.log_item.proofs.Lengths.{and-both}
 use Rattle.field.specs.Prefix.{inside}
-use Rattle.log_item.specs.Refusing.{opInside, spanRefusal, contentInside, entriesRefusal, keyRefusal, contentRefusal}
+use Rattle.log_item.specs.Refusing.{opInside, spanRefusal, contentInside, indexRefusal, entriesRefusal, keyRefusal, contentRefusal}
 use Rattle.log_item.specs.Written.{pieceRefusal}
+
+-- A test that refuses did not.
+pub untaken : (t : Bool) (r rest : ℕ) → cond t (suc r) rest ≡ 0 → (t ≡ false) × (rest ≡ 0)
+untaken true r rest e = absurd (omega arith)
+untaken false r rest e = (refl, e)
+
+pub taken : (t : Bool) (r rest : ℕ) → cond t rest (suc r) ≡ 0 → (t ≡ true) × (rest ≡ 0)
+taken true r rest e = (refl, e)
+taken false r rest e = absurd (omega arith)
+
+-- 17 in the sum of the first index and the count.
+index-17 : (n i : ℕ) → i ≤ 18446744073709551615 → 18446744073709551616 < i + n → 17 ≡ indexRefusal n i
+index-17 zero i h l = absurd (omega arith)
+index-17 (suc n) i h l = rw (lt-leb (i + n) 18446744073709551615 (omega arith))
+
+index-fine : (n i : ℕ) → i + n ≤ 18446744073709551616 → 0 ≡ indexRefusal n i
+index-fine zero i l = refl
+index-fine (suc n) i l = rw (le-leb (i + n) 18446744073709551615 (omega arith))
+
+index-allowed : (n i : ℕ) → indexRefusal n i ≡ 0 → i ≤ 18446744073709551616 → i + n ≤ 18446744073709551616
+index-allowed zero i e h = omega arith
+index-allowed (suc n) i e h = omega (arith, leb-true (i + n) 18446744073709551615 (taken (leb (i + n) 18446744073709551615) 16 0 e .0))
 
 module _ (used rows : ℕ) (e : EntryIndexes) where
   pub entries-14 : 1024 < used + e .count → 14 ≡ entriesRefusal used rows e
@@ -32,13 +54,14 @@ module _ (used rows : ℕ) (e : EntryIndexes) where
   unfolding entriesRefusal
   entries-13 h k = rw (le-ltb 1024 (used + e .count) h, lt-ltb rows (used + e .count) k)
 
-  pub entries-17 : used + e .count ≤ 1024 → used + e .count ≤ rows → 18446744073709551616 < e .«first_index» + e .count → 17 ≡ entriesRefusal used rows e
+  pub entries-17 : used + e .count ≤ 1024 → used + e .count ≤ rows → e .«first_index» ≤ 18446744073709551615
+      → 18446744073709551616 < e .«first_index» + e .count → 17 ≡ entriesRefusal used rows e
   unfolding entriesRefusal
-  entries-17 h k l = rw (le-ltb 1024 (used + e .count) h, le-ltb rows (used + e .count) k, lt-ltb 18446744073709551616 (e .«first_index» + e .count) l)
+  entries-17 h k b l = rw (le-ltb 1024 (used + e .count) h, le-ltb rows (used + e .count) k) (index-17 (e .count) (e .«first_index») b l)
 
   pub entries-fine : used + e .count ≤ 1024 → used + e .count ≤ rows → e .«first_index» + e .count ≤ 18446744073709551616 → 0 ≡ entriesRefusal used rows e
   unfolding entriesRefusal
-  entries-fine h k l = rw (le-ltb 1024 (used + e .count) h, le-ltb rows (used + e .count) k, le-ltb 18446744073709551616 (e .«first_index» + e .count) l)
+  entries-fine h k l = rw (le-ltb 1024 (used + e .count) h, le-ltb rows (used + e .count) k) (index-fine (e .count) (e .«first_index») l)
 
 pub not-checked : (checked b : Bool) → checked ≡ false → false ≡ (checked && b)
 not-checked checked b e = rw e
@@ -118,15 +141,6 @@ module _ (lies : Bool) (at n all : ℕ) where
   unfolding pieceRefusal
   piece-fits h k = rw (h, k)
 
--- A test that refuses did not.
-pub untaken : (t : Bool) (r rest : ℕ) → cond t (suc r) rest ≡ 0 → (t ≡ false) × (rest ≡ 0)
-untaken true r rest e = absurd (omega arith)
-untaken false r rest e = (refl, e)
-
-pub taken : (t : Bool) (r rest : ℕ) → cond t rest (suc r) ≡ 0 → (t ≡ true) × (rest ≡ 0)
-taken true r rest e = (refl, e)
-taken false r rest e = absurd (omega arith)
-
 -- Spans that are not refused lie in the store, and what follows does not refuse.
 pub all-inside : (b : Bool) (rest : ℕ) → firstOf (spanRefusal b) rest ≡ 0 → (b ≡ true) × (rest ≡ 0)
 all-inside true rest e = (refl, e)
@@ -137,7 +151,7 @@ module _ (s : List ℕ) (checked : Bool) (used rows : ℕ) where
   pub record Allowed (e : EntryIndexes) : Type 0 where
     pub few : used ≤ 1024 → used + e .count ≤ 1024
     pub lent : used ≤ rows → used + e .count ≤ rows
-    pub last : e .«first_index» + e .count ≤ 18446744073709551616
+    pub last : e .«first_index» ≤ 18446744073709551616 → e .«first_index» + e .count ≤ 18446744073709551616
 
   pub content-inside : (k : LogItemContent) → contentRefusal s checked used rows k ≡ 0 → contentInside s k ≡ true
   unfolding contentRefusal keyRefusal
@@ -149,12 +163,11 @@ module _ (s : List ℕ) (checked : Bool) (used rows : ℕ) where
   unfolding contentRefusal entriesRefusal
   content-allowed (contents.EntryIndexes e) h =
       let n : ℕ = used + e .count in
-      let c : ℕ = cond (ltb 18446744073709551616 (e .«first_index» + e .count)) 17 0 in
+      let c : ℕ = indexRefusal (e .count) (e .«first_index») in
       let a = untaken (ltb 1024 n) 13 (cond (ltb rows n) 13 c) h in
       let b = untaken (ltb rows n) 12 c (a .1) in
-      let d = untaken (ltb 18446744073709551616 (e .«first_index» + e .count)) 16 0 (b .1) in
       let x = ltb-false _ _ (a .0) in
       let y = ltb-false _ _ (b .0) in
-      record { few = λ u. x; lent = λ u. y; last = ltb-false _ _ (d .0) }
-  content-allowed (contents.Command c) h = record { few = λ u. omega arith; lent = λ u. omega arith; last = omega arith }
-  content-allowed (contents.Kv k) h = record { few = λ u. omega arith; lent = λ u. omega arith; last = omega arith }
+      record { few = λ u. x; lent = λ u. y; last = index-allowed (e .count) (e .«first_index») (b .1) }
+  content-allowed (contents.Command c) h = record { few = λ u. omega arith; lent = λ u. omega arith; last = λ u. omega arith }
+  content-allowed (contents.Kv k) h = record { few = λ u. omega arith; lent = λ u. omega arith; last = λ u. omega arith }

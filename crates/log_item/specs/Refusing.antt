@@ -1,9 +1,9 @@
 -- Which refusal a writer gives an item, but for 16: the checks in the order of document 01, each with its number; 0 is none.
 -- Assumes nothing.
-use Prim.Native.Nat.{ℕ, _+_}
+use Prim.Native.Nat.{ℕ, zero, suc, _+_}
 use mathlib.Core.Bool.{Bool, true, cond, _&&_}
 use mathlib.Core.List.{List}
-use lib.Dec.{ltb}
+use lib.Dec.{ltb, leb}
 use Rattle.refusal.specs.First.{firstOf}
 use Rattle.field.specs.Prefix.{prefix, begins, bytesOf, inside}
 use Rattle.field.specs.declared.Span.{Span}
@@ -13,12 +13,17 @@ use Rattle.log_item.specs.declared.EntryIndexes.{EntryIndexes}
 use Rattle.log_item.specs.declared.LogItemContent.{LogItemContent}
 use Rattle.log_item.specs.declared.LogItemContent.the-variants as contents
 
--- 14, 13, 17: `used` rows are behind, of `rows` that are lent. A first index is below 2^64, so that n = 0 is never a 17
+-- 17 where n > 0 and the index i + n - 1, that of the last, is above 2^64 - 1
+abbrev pub indexRefusal : ℕ → ℕ → ℕ
+indexRefusal zero i = 0
+indexRefusal (suc n) i = cond (leb (i + n) 18446744073709551615) 0 17
+
+-- 14, 13, 17: `used` rows are behind, of `rows` that are lent
 unfoldable pub entriesRefusal : ℕ → ℕ → EntryIndexes → ℕ
 entriesRefusal used rows e =
     cond (ltb 1024 (used + e .count)) 14
     (cond (ltb rows (used + e .count)) 13
-    (cond (ltb 18446744073709551616 (e .«first_index» + e .count)) 17 0))
+    (indexRefusal (e .count) (e .«first_index»)))
 
 -- the spans of a key lie in the store
 abbrev pub opInside : List ℕ → Span → Op → Bool

@@ -7,7 +7,7 @@ use mathlib.Core.List.{List, [], _∷_, _++_, map, append-assoc}
 use native.Mathlib.Omega.{arith}
 use lib.ListN.{length, take, drop, length-take}
 use lib.Seq.{take-at, drop-append-seam, drop-append-add}
-use lib.Dec.{ltb, leb}
+use lib.Dec.{ltb, leb, lit<}
 use borrow.Author.Tests.{ltb-false, leb-true, le-leb}
 use Rattle.numbers.specs.Shortest.{shortest}
 use Rattle.words.specs.Write.{placed}
@@ -209,6 +209,13 @@ pub first-none : (n r : ℕ) → firstOf n r ≡ 0 → (n ≡ 0) × (r ≡ 0)
 first-none zero r h = (refl, h)
 first-none (suc n) r h = absurd (omega arith)
 
+-- The first index is among the numbers of a content.
+pub first-small : (k : LogItemContent) → Small (numbersOf k) → entriesOf k .«first_index» < 2 ^ 64
+unfolding numbersOf
+first-small (contents.EntryIndexes e) (one n (one i z)) = i
+first-small (contents.Command c) z = lit< tt
+first-small (contents.Kv k) z = lit< tt
+
 -- What `encode` does not refuse can be written, fits, and can be read.
 pub record Accepted (s : List ℕ) (x : LogItem) (lengths : List ℕ) (t : ℕ) (out : List ℕ) (at : ℕ) : Type 0 where
   pub writable : Writable s x lengths t
@@ -219,7 +226,7 @@ pub record Accepted (s : List ℕ) (x : LogItem) (lengths : List ℕ) (t : ℕ) 
 pub encode-accepted : (s : List ℕ) (x : LogItem) (lengths : List ℕ) (t : ℕ) (out : List ℕ) (at : ℕ) → Small (x .«raft_group_id» ∷ numbersOf (x .content))
     → itemRefusal s x lengths t out at ≡ 0 → Accepted s x lengths t out at
 unfolding itemRefusal
-encode-accepted s x lengths t out at z h =
+encode-accepted s x lengths t out at (one g z) h =
     let long : ℕ = at + length (itemBytes s x lengths t) in
     let a = first-none (contentRefusal s false 0 (length lengths) (x .content)) _ h in
     let b = first-none (tailRefusal x lengths t) (cond (leb long (length out)) 0 21) (a .1) in
@@ -229,11 +236,11 @@ encode-accepted s x lengths t out at z h =
     record {
       writable = record {
         spans = content-inside s false 0 (length lengths) (x .content) (a .0);
-        numbers = z;
+        numbers = one g z;
         lent = omega (arith, allowed .lent (omega arith));
         tails = ltb-false _ _ (d .0);
       };
       room = leb-true _ _ (c .0);
       few = omega (arith, allowed .few (omega arith));
-      last = allowed .last;
+      last = allowed .last (omega (arith, first-small (x .content) z));
     }

@@ -41,7 +41,7 @@ use Rattle.log_item.specs.Refusing.{contentRefusal}
 use Rattle.log_item.specs.Written.{sumOf, rowLengths, itemBytes}
 use Rattle.log_item.specs.Relocated.{stated, contentAt, itemAt, itemRows, numbersOf, Small, Writable}
 use Rattle.log_item.proofs.Refusals.{content-inside, content-allowed}
-use Rattle.one_reading.proofs.ItemWritten.{written-item, read-item-at, spans-kept}
+use Rattle.one_reading.proofs.ItemWritten.{first-small, written-item, read-item-at, spans-kept}
 use Rattle.list_writer.specs.declared.Encoded.{Encoded}
 use Rattle.log_item.specs.Blank.{blankItem}
 use Rattle.list_measure.specs.Bytes.{firstRows, itemsOf, itemsBytes, listBytes}
@@ -86,9 +86,13 @@ module _ (s : List ℕ) (checked : Bool) (x : LogItem) (ns : List ℕ) (used t :
   -- Its rows are within the limits, and as many as it states.
   rows-fit : Each RowFits (itemRows x ns t)
   rows-fit =
+      let small : entriesOf (x .content) .«first_index» < 2 ^ 64 = go z in
       let stands = rw append-nil at (at-front (itemBytes s x ns t) []) in
-      let last = content-allowed s checked used (used + length ns) (x .content) e .last in
+      let last = content-allowed s checked used (used + length ns) (x .content) e .last (omega arith) in
       of-got (sound-item Any (itemBytes s x ns t) tt used t 0 low) (read-item-at s x ns t writable Any used stands few last) .has .each
+    where
+      go : Small (x .«raft_group_id» ∷ numbersOf (x .content)) → entriesOf (x .content) .«first_index» < 2 ^ 64
+      go (one g h) = first-small (x .content) h
 
   rows-length : length (itemRows x ns t) ≡ entriesOf (x .content) .count
   unfolding itemAt

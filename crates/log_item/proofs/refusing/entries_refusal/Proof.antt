@@ -28,7 +28,7 @@ sub-if5-2 : tie.Need-sub-if5-2
 sub-if5-2 c = search needs
 
 returns-5 : tie.Need-returns-5
-returns-5 c = entries-17 _ _ _ (omega arith) (omega arith) (omega arith)
+returns-5 c = entries-17 _ _ _ (omega arith) (omega arith) (omega arith) (omega arith)
 
 returns-6 : tie.Need-returns-6
 returns-6 c = entries-fine _ _ _ (omega arith) (omega arith) (omega arith)
