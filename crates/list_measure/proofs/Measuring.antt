@@ -65,6 +65,7 @@ module _ (s : List ℕ) (checked : Bool) (xs : List LogItem) (ns : List ℕ) whe
 pub record Measuring (s : List ℕ) (checked : Bool) (xs : List LogItem) (ns : List ℕ) (first i j tails t size : ℕ) : Type 0 where
   pub most : i ≤ length xs
   pub room : j + tails ≤ length ns
+  pub within : j + tails ≤ 1024
   pub begun : tails ≤ i * 1024
   pub low : t ≤ 4294967295
   pub small : size ≤ 10 + i * 4294967296 + j * 10
@@ -77,6 +78,7 @@ module _ (s : List ℕ) (checked : Bool) (xs : List LogItem) (ns : List ℕ) whe
       record {
         most = omega arith;
         room = omega arith;
+        within = omega arith;
         begun = omega arith;
         low = omega arith;
         small = omega (arith, number-short n (omega arith));
@@ -95,6 +97,7 @@ module _ (s : List ℕ) (checked : Bool) (xs : List LogItem) (ns : List ℕ) whe
         record {
           most = m .most;
           room = omega (arith, m .room);
+          within = omega (arith, m .within);
           begun = omega (arith, m .begun);
           low = l;
           small = omega (arith, m .small, number-short (t + r) l);
@@ -118,18 +121,20 @@ module _ (s : List ℕ) (checked : Bool) (xs : List LogItem) (ns : List ℕ) whe
         ∙ m .told
 
     -- an item
-    pub measuring-item : (x : LogItem) (a b : ℕ) {rows : ℕ} → length ns ≡ rows → rows ≤ 1024 → tails ≤ 0 → i < length xs → getD xs i blankItem ≡ x
+    pub measuring-item : (x : LogItem) (a b : ℕ) {rows : ℕ} → length ns ≡ rows → tails ≤ 0 → i < length xs → getD xs i blankItem ≡ x
         → measureItem s checked j rows x ≡ Fine a b → Measuring s checked xs ns first (i + 1) j b t (size + a)
-    measuring-item x a b all few z h e f =
+    measuring-item x a b all z h e f =
         let k = head-fine s checked j (length ns) x a b (rw all f) in
         let n = entriesOf (x .content) .count in
         let y : restBytes s xs ns i j tails t ≡ headBytes s x ++ restBytes s xs ns (i + 1) j n t =
         ap (λ (n : ℕ). restBytes s xs ns i j n t) (none z) ∙ (rw e at (bytes-item s xs ns i j t h)) in
-        let q : j + n ≤ length ns = content-allowed s checked j (length ns) (x .content) (k .0) .lent (omega (arith, m .room)) in
+        let q = content-allowed s checked j (length ns) (x .content) (k .0) in
+        let few : j + n ≤ 1024 = q .few (omega (arith, m .within)) in
         rw (k .2)
         (record {
           most = omega arith;
-          room = q;
+          room = q .lent (omega (arith, m .room));
+          within = few;
           begun = omega arith;
           low = m .low;
           small = omega (arith, m .small, k .1);

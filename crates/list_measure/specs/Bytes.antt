@@ -1,28 +1,24 @@
 -- The bytes that a writer writes for a list of items: item count, items.
 -- Assumes nothing.
-use Prim.Native.Nat.{ℕ, zero, suc, min}
+use Prim.Native.Nat.{ℕ, zero, suc}
 use mathlib.Core.List.{List, [], _∷_, _++_, map}
-use lib.ListN.{length, drop}
+use lib.ListN.{length, take, drop}
 use Rattle.numbers.specs.Shortest.{shortest}
-use Rattle.log_item.specs.Blank.{blankItem, blankEntry}
+use Rattle.log_item.specs.Blank.{blankItem}
 use Rattle.log_item.specs.Entries.{entriesOf}
 use Rattle.log_item.specs.declared.LogItem.{LogItem}
 use Rattle.log_item.specs.declared.EntryIndex.{EntryIndex}
 use Rattle.log_item.specs.Written.{sumOf, rowLengths, itemBytes}
 
--- the first n of a list, and d for each that it lacks, as reading outside an array would give
-abbrev pub firstRows : {A : Type 0} → A → ℕ → List A → List A
-firstRows d zero xs = []
-firstRows d (suc n) [] = d ∷ firstRows d n []
-firstRows d (suc n) (x ∷ xs) = x ∷ firstRows d n xs
-
--- the items of a table of 256 rows, as many as it says
+-- the items of a table of 256 rows, as many as it says: blank ones behind its rows, so that a count above 256 is seen as a 9
 unfoldable pub itemsOf : List LogItem → ℕ → List LogItem
-itemsOf items n = firstRows blankItem n items
+itemsOf items zero = []
+itemsOf [] (suc n) = blankItem ∷ itemsOf [] n
+itemsOf (x ∷ items) (suc n) = x ∷ itemsOf items n
 
--- the lengths of the entry rows that are lent: at most the 1,024 of the table
+-- the lengths of its entry rows, as many as it says and has
 unfoldable pub lengthsOf : List EntryIndex → ℕ → List ℕ
-lengthsOf entries n = map (λ (r : EntryIndex). r .«entry_len») (firstRows blankEntry (min n 1024) entries)
+lengthsOf entries n = map (λ (r : EntryIndex). r .«entry_len») (take n entries)
 
 -- items, each with the next of the lengths for its tails; the total t runs on
 unfoldable pub itemsBytes : List ℕ → List LogItem → List ℕ → ℕ → List ℕ

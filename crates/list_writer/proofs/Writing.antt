@@ -31,6 +31,7 @@ pub record Writing (s : List ℕ) (xs : List LogItem) (ns out₀ : List ℕ) (st
   pub total : ℕ
   pub most : i ≤ length xs
   pub room : j + tails ≤ length ns
+  pub within : j + tails ≤ 1024
   pub low : t ≤ 4294967295
   pub same : length out ≡ length out₀
   pub spare : at + length (restBytes s xs ns i j tails t) + 4 ≤ length out
@@ -45,6 +46,7 @@ writing-start s checked xs ns out at total e h =
       total = total;
       most = omega arith;
       room = omega arith;
+      within = omega arith;
       low = omega arith;
       same = refl;
       spare = omega (arith, ap length (bytes-start s xs ns));
@@ -90,6 +92,7 @@ module _ {s : List ℕ} {xs : List LogItem} {ns out₀ : List ℕ} {start : ℕ}
         total = w .total;
         most = w .most;
         room = omega (arith, w .room);
+        within = omega (arith, w .within);
         low = row-low r h e;
         same = stored-length p ∙ w .same;
         spare = spare-now _ _ (row-bytes r h e) p;
@@ -119,8 +122,11 @@ module _ {s : List ℕ} {xs : List LogItem} {ns out₀ : List ℕ} {start : ℕ}
   item-inside : (x : LogItem) → tails ≤ 0 → i < length xs → getD xs i blankItem ≡ x → contentInside s (x .content) ≡ true
   item-inside x z h e = content-inside s (w .checked) j (length ns) (x .content) (item-told x z h e .0)
 
-  pub item-rows : (x : LogItem) → tails ≤ 0 → i < length xs → getD xs i blankItem ≡ x → j + entriesOf (x .content) .count ≤ length ns
+  item-rows : (x : LogItem) → tails ≤ 0 → i < length xs → getD xs i blankItem ≡ x → j + entriesOf (x .content) .count ≤ length ns
   item-rows x z h e = content-allowed s (w .checked) j (length ns) (x .content) (item-told x z h e .0) .lent (omega (arith, w .room))
+
+  pub item-few : (x : LogItem) → tails ≤ 0 → i < length xs → getD xs i blankItem ≡ x → j + entriesOf (x .content) .count ≤ 1024
+  item-few x z h e = content-allowed s (w .checked) j (length ns) (x .content) (item-told x z h e .0) .few (omega (arith, w .within))
 
   pub writing-item : (x : LogItem) (later : List ℕ) (next b : ℕ) → tails ≤ 0 → i < length xs → getD xs i blankItem ≡ x → b ≡ entriesOf (x .content) .count
       → (next ≡ headNext s x (length out) at) × (later ≡ headPlaced s x out at) → Writing s xs ns out₀ start later next (i + 1) j b t
@@ -132,6 +138,7 @@ module _ {s : List ℕ} {xs : List LogItem} {ns out₀ : List ℕ} {start : ℕ}
         total = w .total;
         most = omega arith;
         room = item-rows x z h e;
+        within = item-few x z h e;
         low = w .low;
         same = stored-length p ∙ w .same;
         spare = spare-now _ _ (item-bytes x z h e) p;

@@ -44,7 +44,7 @@ use Rattle.log_item.proofs.Refusals.{content-inside, content-allowed}
 use Rattle.one_reading.proofs.ItemWritten.{first-small, written-item, read-item-at, spans-kept}
 use Rattle.list_writer.specs.declared.Encoded.{Encoded}
 use Rattle.log_item.specs.Blank.{blankItem}
-use Rattle.list_measure.specs.Bytes.{firstRows, itemsOf, itemsBytes, listBytes}
+use Rattle.list_measure.specs.Bytes.{itemsOf, itemsBytes, listBytes}
 use Rattle.list_writer.specs.Bytes.{footed, bodyBytes}
 use Rattle.list_measure.specs.Refusing.{fine, itemsVerdict, listVerdict}
 use Rattle.list_measure.proofs.Heads.{cond-fine}
@@ -244,7 +244,7 @@ table-small t z = go (t .«item_count») (t .items) z
     blank : Small (blankItem .«raft_group_id» ∷ numbersOf (blankItem .content))
     blank = one (lit< tt) (one (lit< tt) (one (lit< tt) none))
 
-    go : (n : ℕ) (xs : List LogItem) → AllSmall xs → AllSmall (firstRows blankItem n xs)
+    go : (n : ℕ) (xs : List LogItem) → AllSmall xs → AllSmall (itemsOf xs n)
     go zero xs f = none
     go (suc n) [] f = one blank (go n [] f)
     go (suc n) (x ∷ xs) (one h f) = one h (go n xs f)

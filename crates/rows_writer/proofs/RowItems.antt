@@ -1,6 +1,6 @@
 -- The items and the lengths that lent rows hold: how many, and which stands at a place.
 -- Assumes nothing.
-use Prim.Native.Nat.{ℕ, zero, suc, _+_, _*_, _/_, _≤_, _<_, min}
+use Prim.Native.Nat.{ℕ, zero, suc, _+_, _*_, _/_, _≤_, _<_}
 use mathlib.Core.Path.{_≡_, refl, sym, ap, _∙_}
 use mathlib.Core.Bool.{Bool, true, false}
 use mathlib.Core.List.{List}
@@ -119,19 +119,16 @@ module _ (words : List ℕ) where
       let z : j + 1 + k ≡ j + suc k = omega arith in
       from-word n (j + 1) k (omega arith) ∙ ap (λ (m : ℕ). getD words (m * 3 + 2) 0) z
 
-  pub lengths-length : length (entryLengths words) ≡ min (length words / 3) 1024
+  pub lengths-length : length (entryLengths words) ≡ length words / 3
   unfolding entryLengths
-  lengths-length = from-length (min (length words / 3) 1024) 0
+  lengths-length = from-length (length words / 3) 0
 
   pub length-at : (j : ℕ) → j < length (entryLengths words) → getD (entryLengths words) j 0 ≡ getD words (j * 3 + 2) 0
   unfolding entryLengths
   length-at j h =
       let z : 0 + j ≡ j = omega arith in
-      from-word (min (length words / 3) 1024) 0 j (omega (arith, from-length (min (length words / 3) 1024) 0)) ∙ ap (λ (m : ℕ). getD words (m * 3 + 2) 0) z
+      from-word (length words / 3) 0 j (omega (arith, from-length (length words / 3) 0)) ∙ ap (λ (m : ℕ). getD words (m * 3 + 2) 0) z
 
   -- There are three words of each.
   pub words-there : (j : ℕ) → j < length (entryLengths words) → j * 3 + 3 ≤ length words
   words-there j h = omega (arith, lengths-length)
-
-  pub lengths-few : length (entryLengths words) ≤ 1024
-  lengths-few = omega (arith, lengths-length)

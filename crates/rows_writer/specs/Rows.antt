@@ -1,7 +1,7 @@
 -- The items and the entry lengths that lent rows hold, which refusal a writer gives them, and what it answers. A row that spells no item is
 -- refused at its turn.
 -- Assumes nothing.
-use Prim.Native.Nat.{ℕ, zero, suc, _+_, _*_, _/_, min}
+use Prim.Native.Nat.{ℕ, zero, suc, _+_, _*_, _/_}
 use mathlib.Core.Bool.{Bool, cond}
 use mathlib.Core.List.{List, [], _∷_}
 use lib.Dec.{ltb, eqb}
@@ -38,9 +38,9 @@ unfoldable pub lengthsFrom : List ℕ → ℕ → ℕ → List ℕ
 lengthsFrom words zero j = []
 lengthsFrom words (suc n) j = getD words (j * 3 + 2) 0 ∷ lengthsFrom words n (j + 1)
 
--- as many as there are, at most 1,024: no more can be used
+-- as many as there are
 unfoldable pub entryLengths : List ℕ → List ℕ
-entryLengths words = lengthsFrom words (min (length words / 3) 1024) 0
+entryLengths words = lengthsFrom words (length words / 3) 0
 
 -- why a row is no item; 0 where it is one
 abbrev pub rowNumber : ItemRowRead → ℕ

@@ -19,7 +19,7 @@ pub fn measure_rows(items: &[u64], entries: &[u64], store: &[u8], checked: bool)
     ensures { λ r. ⌜ r ≡ measureRows (now (store .entry)) checked (now (items .entry)) (now (entries .entry)) ⌝ }
 {
     let count = items.len() / 7;
-    let rows = codec::least(entries.len() / 3, 1024);
+    let rows = entries.len() / 3;
     if 256 < count {
         return list_writer::refuse(refusal::ITEMS_TOO_MANY, 0);
     }

@@ -16,7 +16,7 @@ use Rattle.list_measure.proofs.measure.Tie as tie
 abbrev Inv-loop : tie.InvT-loop
 Inv-loop item-count entry-count store checked items entries rows size₀ i₀ j₀ tails₀ total₀ size i j tails total =
     Measuring store checked (itemsOf items item-count) (lengthsOf entries entry-count) size₀ i j tails total size
-    × (length (itemsOf items item-count) ≡ item-count) × (length (lengthsOf entries entry-count) ≡ rows) × (rows ≤ 1024) × (item-count ≤ 256)
+    × (length (itemsOf items item-count) ≡ item-count) × (length (lengthsOf entries entry-count) ≡ rows) × (item-count ≤ 256)
     × (size₀ ≡ length (shortest item-count))
 
 abbrev μ-loop : tie.MeasureT-loop
@@ -38,8 +38,7 @@ loop-holds : tie.Need-loop-holds Inv-loop μ-loop
 loop-holds c = (
   measuring-start _ _ _ _ _ _ (c .before .if1 .left) (c .var-u64-len .ensures),
   items-length _ _,
-  lengths-length _ _ ∙ sym (c .before .before .least .ensures),
-  omega (arith, c .before .before .least .ensures),
+  lengths-length _ _ (c .before .before .before .before .good .1 .1 .0 .1 .0 .1) ∙ sym (c .before .before .least .ensures),
   c .before .if1 .left,
   c .var-u64-len .ensures,
 )
@@ -97,7 +96,6 @@ loop-again c =
       v .2,
       v .3,
       v .4,
-      v .5,
     )
 
 mul-item : tie.Need-mul-item Inv-loop μ-loop
@@ -130,7 +128,7 @@ add-size-2 : tie.Need-add-size-2 Inv-loop μ-loop
 add-size-2 c =
     let v = c .before .before .before .before .before .before .before .loop .inv in
     let w =
-    measuring-item _ _ _ _ (v .0) _ _ _ (v .2) (v .3) (c .before .before .before .before .before .before .if2 .left) (omega arith) (item-at _ _ _ (omega arith))
+    measuring-item _ _ _ _ (v .0) _ _ _ (v .2) (c .before .before .before .before .before .before .if2 .left) (omega arith) (item-at _ _ _ (omega arith))
     (sym (c .before .before .before .measure .ensures) ∙ c .before .len .given .1) in
     omega arith
 
@@ -141,20 +139,19 @@ loop-less-2 : tie.Need-loop-less-2 Inv-loop μ-loop
 loop-less-2 c =
     let v = c .before .before .before .before .before .before .before .loop .inv in
     let w =
-    measuring-item _ _ _ _ (v .0) _ _ _ (v .2) (v .3) (c .before .before .before .before .before .before .if2 .left) (omega arith) (item-at _ _ _ (omega arith))
+    measuring-item _ _ _ _ (v .0) _ _ _ (v .2) (c .before .before .before .before .before .before .if2 .left) (omega arith) (item-at _ _ _ (omega arith))
     (sym (c .before .before .before .measure .ensures) ∙ c .before .len .given .1) in
     omega arith
 
 loop-again-2 : tie.Need-loop-again-2 Inv-loop μ-loop
 loop-again-2 c =
     let v = c .before .before .before .before .before .before .before .loop .inv in (
-      measuring-item _ _ _ _ (v .0) _ _ _ (v .2) (v .3) (c .before .before .before .before .before .before .if2 .left) (omega arith) (item-at _ _ _ (omega arith))
+      measuring-item _ _ _ _ (v .0) _ _ _ (v .2) (c .before .before .before .before .before .before .if2 .left) (omega arith) (item-at _ _ _ (omega arith))
           (sym (c .before .before .before .measure .ensures) ∙ c .before .len .given .1),
       v .1,
       v .2,
       v .3,
       v .4,
-      v .5,
     )
 
 finish-requires : tie.Need-finish-requires Inv-loop μ-loop
@@ -163,7 +160,7 @@ finish-requires c κs = search needs
 returns-4 : tie.Need-returns-4 Inv-loop μ-loop
 returns-4 c =
     let v = c .before .before .before .loop .inv in
-    c .finish .ensures ∙ measuring-end _ _ _ _ (v .0) (omega arith) (v .5 ∙ ap (λ (n : ℕ). length (shortest n)) (sym (v .1))) (c .before .before .if2 .left) (omega arith)
+    c .finish .ensures ∙ measuring-end _ _ _ _ (v .0) (omega arith) (v .4 ∙ ap (λ (n : ℕ). length (shortest n)) (sym (v .1))) (c .before .before .if2 .left) (omega arith)
 
 pub measure-spec : {M : Type 1} → statement M
 measure-spec =

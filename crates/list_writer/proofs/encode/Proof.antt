@@ -9,8 +9,8 @@ use denote.Ref.{now}
 use lib.ListN.{length}
 use Rattle.log_item.specs.declared.EntryIndexes.{EntryIndexes}
 use Rattle.list_measure.specs.Bytes.{itemsOf, lengthsOf}
-use Rattle.list_measure.proofs.Tables.{items-length, item-at, lengths-few, length-at}
-use Rattle.list_writer.proofs.Writing.{Writing, row-low, writing-row, item-rows, writing-item}
+use Rattle.list_measure.proofs.Tables.{items-length, item-at, length-at}
+use Rattle.list_writer.proofs.Writing.{Writing, row-low, writing-row, item-few, writing-item}
 use Rattle.list_writer.proofs.Bodies.{accepted, writing-begins, body-stored, body-length, fits, none-written, all-written}
 use Rattle.list_writer.proofs.encode.Statement.{statement}
 use Rattle.list_writer.proofs.encode.Tie as tie
@@ -18,7 +18,7 @@ use Rattle.list_writer.proofs.encode.Tie as tie
 abbrev Inv-loop : tie.InvT-loop
 Inv-loop item-count entry-count store signature checked out₀ at items entries answer next₀ i₀ j₀ tails₀ total₀ out next i j tails total =
     Writing store (itemsOf items item-count) (lengthsOf entries entry-count) out₀ next₀ out next i j tails total
-    × (length (itemsOf items item-count) ≡ item-count) × (length (lengthsOf entries entry-count) ≤ 1024) × (length (itemsOf items item-count) ≤ 256)
+    × (length (itemsOf items item-count) ≡ item-count) × (length (itemsOf items item-count) ≤ 256)
 
 abbrev μ-loop : tie.MeasureT-loop
 μ-loop item-count entry-count store signature checked out₀ at items entries answer next₀ i₀ j₀ tails₀ total₀ out next i j tails total =
@@ -42,7 +42,7 @@ loop-holds c =
     let m = c .before .before .before .before .before .before .before .measure .ensures in
     let f = fits m (length (now (start .out))) (start .at) (c .before .before .before .before .before .before .placing .ensures) (c .before .before .before .before .if1 .left) in
     let a = accepted _ _ _ _ _ m (f .0) in
-    (writing-begins a (items-length _ _) _ _ (f .1) (c .before .before .put-var-u64 .ensures), items-length _ _, lengths-few _ _, a .few)
+    (writing-begins a (items-length _ _) _ _ (f .1) (c .before .before .put-var-u64 .ensures), items-length _ _, a .few)
 
 mul-row : tie.Need-mul-row Inv-loop μ-loop
 mul-row c = search needs
@@ -71,7 +71,7 @@ loop-less c = search needs
 loop-again : tie.Need-loop-again Inv-loop μ-loop
 loop-again c =
     let v = c .before .before .before .before .before .before .before .loop .inv in
-    (writing-row (v .0) _ _ _ (c .before .before .before .before .before .before .if2 .taken) (length-at _ _ _ (omega arith)) (c .before .before .put-var-u642 .ensures), v .1, v .2, v .3)
+    (writing-row (v .0) _ _ _ (c .before .before .before .before .before .before .if2 .taken) (length-at _ _ _ (omega arith)) (c .before .before .put-var-u642 .ensures), v .1, v .2)
 
 mul-item : tie.Need-mul-item Inv-loop μ-loop
 mul-item c = search needs
@@ -90,7 +90,7 @@ add-i c = search needs
 
 loop-less-2 : tie.Need-loop-less-2 Inv-loop μ-loop
 loop-less-2 c =
-    let k = item-rows (c .before .before .before .before .before .before .before .before .loop .inv .0) _ (c .before .before .before .before .before .before .before .if2 .left) (omega arith) (item-at _ _ _ (omega arith)) in
+    let k = item-few (c .before .before .before .before .before .before .before .before .loop .inv .0) _ (c .before .before .before .before .before .before .before .if2 .left) (omega arith) (item-at _ _ _ (omega arith)) in
     omega (arith, ap (λ (e : EntryIndexes). e .count) (c .entries .ensures))
 
 loop-again-2 : tie.Need-loop-again-2 Inv-loop μ-loop
@@ -100,7 +100,6 @@ loop-again-2 c =
           (c .before .before .before .write-head .ensures),
       v .1,
       v .2,
-      v .3,
     )
 
 write-footer-requires : tie.Need-write-footer-requires Inv-loop μ-loop

@@ -1,9 +1,9 @@
 -- `rows_writer::encode_rows` meets its contract. The loop's invariant is that of `encode`, for the items of the rows: each row is one.
 -- Assumes nothing.
 use Rattle.list_writer.proofs.Bodies.{accepted, writing-begins, body-stored, body-length, fits, none-written, all-written}
-use Rattle.list_writer.proofs.Writing.{Writing, row-low, writing-row, item-rows, writing-item}
+use Rattle.list_writer.proofs.Writing.{Writing, row-low, writing-row, item-few, writing-item}
 use Rattle.rows_writer.proofs.RowsMeasuring.{rows-accepted}
-use Rattle.rows_writer.proofs.RowItems.{row-never, row-item, lengths-few, length-at, words-there}
+use Rattle.rows_writer.proofs.RowItems.{row-never, row-item, length-at, words-there}
 use Rattle.rows_writer.specs.Rows.{itemRowCount, rowItems, entryLengths}
 use Rattle.log_item.specs.declared.EntryIndexes.{EntryIndexes}
 use denote.Ref.{now}
@@ -18,7 +18,7 @@ use Rattle.rows_writer.proofs.encode_rows.Tie as tie
 abbrev Inv-loop : tie.InvT-loop
 Inv-loop items entries store signature checked out₀ at answer count next₀ i₀ j₀ tails₀ total₀ out next i j tails total =
     Writing store (rowItems items) (entryLengths entries) out₀ next₀ out next i j tails total
-    × (length (rowItems items) ≡ count) × (count ≤ 256) × (length (entryLengths entries) ≤ 1024) × (count ≡ itemRowCount items)
+    × (length (rowItems items) ≡ count) × (count ≤ 256) × (count ≡ itemRowCount items)
 
 abbrev μ-loop : tie.MeasureT-loop
 μ-loop items entries store signature checked out₀ at answer count next₀ i₀ j₀ tails₀ total₀ out next i j tails total = (count - i) * 1025 + tails
@@ -42,7 +42,7 @@ loop-holds c =
     let f = fits m (length (now (start .out))) (start .at) (c .before .before .before .before .before .before .placing .ensures) (c .before .before .before .before .if1 .left) in
     let p = rows-accepted _ _ _ _ m (f .0) in
     let a = accepted _ _ _ _ _ (p .1) (f .0) in
-    (writing-begins a (p .0) _ _ (f .1) (c .before .before .put-var-u64 .ensures), p .0, omega (arith, a .few, p .0), lengths-few _, refl)
+    (writing-begins a (p .0) _ _ (f .1) (c .before .before .put-var-u64 .ensures), p .0, omega (arith, a .few, p .0), refl)
 
 entry-len-requires : tie.Need-entry-len-requires Inv-loop μ-loop
 entry-len-requires c κs = words-there (now (c .before .before .before .before .before .before .before .before .before .before .before .before .before .before .args .entries)) (c .before .loop .j) (omega arith)
@@ -71,7 +71,7 @@ loop-less c = search needs
 loop-again : tie.Need-loop-again Inv-loop μ-loop
 loop-again c =
     let v = c .before .before .before .before .before .before .loop .inv in
-    (writing-row (v .0) _ _ _ (c .before .before .before .before .before .if2 .taken) (length-at _ _ (omega arith) ∙ sym (c .before .before .before .before .entry-len .ensures)) (c .before .before .put-var-u642 .ensures), v .1, v .2, v .3, v .4)
+    (writing-row (v .0) _ _ _ (c .before .before .before .before .before .if2 .taken) (length-at _ _ (omega arith) ∙ sym (c .before .before .before .before .entry-len .ensures)) (c .before .before .put-var-u642 .ensures), v .1, v .2, v .3)
 
 row-at-requires : tie.Need-row-at-requires Inv-loop μ-loop
 row-at-requires c κs = omega arith
@@ -100,7 +100,7 @@ add-i c = search needs
 loop-less-2 : tie.Need-loop-less-2 Inv-loop μ-loop
 loop-less-2 c =
     let e = sym (c .before .before .before .before .before .before .before .before .row-at .ensures) ∙ c .before .before .before .before .before .before .item .given .1 in
-    let k = item-rows (c .before .before .before .before .before .before .before .before .before .before .before .loop .inv .0) _ (c .before .before .before .before .before .before .before .before .before .before .if2 .left) (omega arith) (row-item _ _ (omega arith) e) in
+    let k = item-few (c .before .before .before .before .before .before .before .before .before .before .before .loop .inv .0) _ (c .before .before .before .before .before .before .before .before .before .before .if2 .left) (omega arith) (row-item _ _ (omega arith) e) in
     omega (arith, ap (λ (e : EntryIndexes). e .count) (c .entries .ensures))
 
 loop-again-2 : tie.Need-loop-again-2 Inv-loop μ-loop
@@ -112,7 +112,6 @@ loop-again-2 c =
       v .1,
       v .2,
       v .3,
-      v .4,
     )
 
 write-footer-requires : tie.Need-write-footer-requires Inv-loop μ-loop

@@ -16,13 +16,10 @@ use Rattle.rows_writer.proofs.measure_rows.Statement.{statement}
 use Rattle.rows_writer.proofs.measure_rows.Tie as tie
 
 abbrev Inv-loop : tie.InvT-loop
-Inv-loop items entries store checked count rows size₀ i₀ j₀ tails₀ total₀ size i j tails total = Measuring store checked (rowItems items) (entryLengths entries) size₀ i j tails total size × (length (entryLengths entries) ≡ rows) × (rows ≤ 1024) × (count ≤ 256) × (count ≡ itemRowCount items) × (size₀ ≡ length (shortest count))
+Inv-loop items entries store checked count rows size₀ i₀ j₀ tails₀ total₀ size i j tails total = Measuring store checked (rowItems items) (entryLengths entries) size₀ i j tails total size × (length (entryLengths entries) ≡ rows) × (count ≤ 256) × (count ≡ itemRowCount items) × (size₀ ≡ length (shortest count))
 
 abbrev μ-loop : tie.MeasureT-loop
 μ-loop items entries store checked count rows size₀ i₀ j₀ tails₀ total₀ size i j tails total = (count - i) * 1025 + tails
-
-least-requires : tie.Need-least-requires Inv-loop μ-loop
-least-requires c κs = search needs
 
 refuse-requires : tie.Need-refuse-requires Inv-loop μ-loop
 refuse-requires c κs = search needs
@@ -34,10 +31,10 @@ var-u64-len-requires : tie.Need-var-u64-len-requires Inv-loop μ-loop
 var-u64-len-requires c κs = search needs
 
 loop-holds : tie.Need-loop-holds Inv-loop μ-loop
-loop-holds c = (measuring-start _ _ _ _ _ _ (c .before .if1 .left) (c .var-u64-len .ensures), lengths-length _ ∙ sym (c .before .before .least .ensures), omega (arith, c .before .before .least .ensures), c .before .if1 .left, refl, c .var-u64-len .ensures)
+loop-holds c = (measuring-start _ _ _ _ _ _ (c .before .if1 .left) (c .var-u64-len .ensures), lengths-length _, c .before .if1 .left, refl, c .var-u64-len .ensures)
 
 entry-len-requires : tie.Need-entry-len-requires Inv-loop μ-loop
-entry-len-requires c κs = words-there (now (c .before .before .before .before .before .before .before .before .args .entries)) (c .before .loop .j) (omega arith)
+entry-len-requires c κs = words-there (now (c .before .before .before .before .before .before .before .args .entries)) (c .before .loop .j) (omega arith)
 
 sub-if3 : tie.Need-sub-if3 Inv-loop μ-loop
 sub-if3 c = search needs
@@ -67,7 +64,7 @@ var-u64-len-requires-2 : tie.Need-var-u64-len-requires-2 Inv-loop μ-loop
 var-u64-len-requires-2 c κs = search needs
 
 add-size : tie.Need-add-size Inv-loop μ-loop
-add-size c = let v = c .before .before .before .before .loop .inv in let w = measuring-row _ _ _ _ (v .0) _ _ (c .before .before .before .if2 .taken) (length-at _ _ (omega arith) ∙ sym (c .before .before .entry-len .ensures)) (omega arith) (c .var-u64-len2 .ensures) in omega (arith, items-few (now (c .before .before .before .before .before .before .before .before .before .before .before .args .items)))
+add-size c = let v = c .before .before .before .before .loop .inv in let w = measuring-row _ _ _ _ (v .0) _ _ (c .before .before .before .if2 .taken) (length-at _ _ (omega arith) ∙ sym (c .before .before .entry-len .ensures)) (omega arith) (c .var-u64-len2 .ensures) in omega (arith, items-few (now (c .before .before .before .before .before .before .before .before .before .before .args .items)))
 
 add-j : tie.Need-add-j Inv-loop μ-loop
 add-j c = search needs
@@ -79,7 +76,7 @@ loop-less : tie.Need-loop-less Inv-loop μ-loop
 loop-less c = search needs
 
 loop-again : tie.Need-loop-again Inv-loop μ-loop
-loop-again c = let v = c .before .before .before .before .loop .inv in (measuring-row _ _ _ _ (v .0) _ _ (c .before .before .before .if2 .taken) (length-at _ _ (omega arith) ∙ sym (c .before .before .entry-len .ensures)) (omega arith) (c .var-u64-len2 .ensures), v .1, v .2, v .3, v .4, v .5)
+loop-again c = let v = c .before .before .before .before .loop .inv in (measuring-row _ _ _ _ (v .0) _ _ (c .before .before .before .if2 .taken) (length-at _ _ (omega arith) ∙ sym (c .before .before .entry-len .ensures)) (omega arith) (c .var-u64-len2 .ensures), v .1, v .2, v .3, v .4)
 
 row-at-requires : tie.Need-row-at-requires Inv-loop μ-loop
 row-at-requires c κs = omega arith
@@ -112,22 +109,22 @@ enum-known-len : tie.Need-enum-known-len Inv-loop μ-loop
 enum-known-len c = search needs
 
 add-size-2 : tie.Need-add-size-2 Inv-loop μ-loop
-add-size-2 c = let v = c .before .before .before .before .before .before .before .before .before .before .loop .inv in let e = sym (c .before .before .before .before .before .before .before .row-at .ensures) ∙ c .before .before .before .before .before .item .given .1 in let l = row-there _ _ (v .0 .most) (omega arith) e in let w = measuring-item _ _ _ _ (v .0) _ _ _ (v .1) (v .2) (c .before .before .before .before .before .before .before .before .before .if2 .left) l (row-item _ _ l e) (sym (c .before .before .before .measure .ensures) ∙ c .before .len .given .1) in omega arith
+add-size-2 c = let v = c .before .before .before .before .before .before .before .before .before .before .loop .inv in let e = sym (c .before .before .before .before .before .before .before .row-at .ensures) ∙ c .before .before .before .before .before .item .given .1 in let l = row-there _ _ (v .0 .most) (omega arith) e in let w = measuring-item _ _ _ _ (v .0) _ _ _ (v .1) (c .before .before .before .before .before .before .before .before .before .if2 .left) l (row-item _ _ l e) (sym (c .before .before .before .measure .ensures) ∙ c .before .len .given .1) in omega arith
 
 add-i : tie.Need-add-i Inv-loop μ-loop
 add-i c = search needs
 
 loop-less-2 : tie.Need-loop-less-2 Inv-loop μ-loop
-loop-less-2 c = let v = c .before .before .before .before .before .before .before .before .before .before .loop .inv in let e = sym (c .before .before .before .before .before .before .before .row-at .ensures) ∙ c .before .before .before .before .before .item .given .1 in let l = row-there _ _ (v .0 .most) (omega arith) e in let w = measuring-item _ _ _ _ (v .0) _ _ _ (v .1) (v .2) (c .before .before .before .before .before .before .before .before .before .if2 .left) l (row-item _ _ l e) (sym (c .before .before .before .measure .ensures) ∙ c .before .len .given .1) in omega arith
+loop-less-2 c = let v = c .before .before .before .before .before .before .before .before .before .before .loop .inv in let e = sym (c .before .before .before .before .before .before .before .row-at .ensures) ∙ c .before .before .before .before .before .item .given .1 in let l = row-there _ _ (v .0 .most) (omega arith) e in let w = measuring-item _ _ _ _ (v .0) _ _ _ (v .1) (c .before .before .before .before .before .before .before .before .before .if2 .left) l (row-item _ _ l e) (sym (c .before .before .before .measure .ensures) ∙ c .before .len .given .1) in omega arith
 
 loop-again-2 : tie.Need-loop-again-2 Inv-loop μ-loop
-loop-again-2 c = let v = c .before .before .before .before .before .before .before .before .before .before .loop .inv in let e = sym (c .before .before .before .before .before .before .before .row-at .ensures) ∙ c .before .before .before .before .before .item .given .1 in let l = row-there _ _ (v .0 .most) (omega arith) e in (measuring-item _ _ _ _ (v .0) _ _ _ (v .1) (v .2) (c .before .before .before .before .before .before .before .before .before .if2 .left) l (row-item _ _ l e) (sym (c .before .before .before .measure .ensures) ∙ c .before .len .given .1), v .1, v .2, v .3, v .4, v .5)
+loop-again-2 c = let v = c .before .before .before .before .before .before .before .before .before .before .loop .inv in let e = sym (c .before .before .before .before .before .before .before .row-at .ensures) ∙ c .before .before .before .before .before .item .given .1 in let l = row-there _ _ (v .0 .most) (omega arith) e in (measuring-item _ _ _ _ (v .0) _ _ _ (v .1) (c .before .before .before .before .before .before .before .before .before .if2 .left) l (row-item _ _ l e) (sym (c .before .before .before .measure .ensures) ∙ c .before .len .given .1), v .1, v .2, v .3, v .4)
 
 finish-requires : tie.Need-finish-requires Inv-loop μ-loop
 finish-requires c κs = search needs
 
 returns-5 : tie.Need-returns-5 Inv-loop μ-loop
-returns-5 c = let v = c .before .before .before .loop .inv in c .finish .ensures ∙ rows-end _ _ _ _ (v .0) (omega arith) (c .before .before .if2 .left) (v .5 ∙ ap (λ n. length (shortest n)) (v .4)) (omega arith)
+returns-5 c = let v = c .before .before .before .loop .inv in c .finish .ensures ∙ rows-end _ _ _ _ (v .0) (omega arith) (c .before .before .if2 .left) (v .4 ∙ ap (λ n. length (shortest n)) (v .3)) (omega arith)
 
 pub measure-rows-spec : {M : Type 1} → statement M
 measure-rows-spec =
@@ -135,7 +132,6 @@ measure-rows-spec =
     (tie.spec
     Inv-loop
     μ-loop
-    least-requires
     refuse-requires
     returns
     var-u64-len-requires
