@@ -54,7 +54,7 @@ use Rattle.one_reading.proofs.Listing.{complete, sound, items-joined, items-ind
 use Rattle.one_reading.proofs.One.{one-spelled}
 use Rattle.one_reading.proofs.Bodies.{sound-body, complete-body, sound-plain, complete-plain}
 use Rattle.one_reading.proofs.Written.{written-spelled, written-bytes, written-kept, read-back, other-signature, table-small, buffer-written, buffer-read-back}
-use Rattle.one_reading.specs.Encoding.{Encodes, writes, leaves}
+use Rattle.one_reading.proofs.Encoding.{Encodes, writes, leaves}
 use Rattle.one_reading.proofs.ListWritten.{encodes}
 use Rattle.batch_front.specs.Front.{blockBytes, batchEncoded}
 use Rattle.batch_front.proofs.Planning.{planned, verdict-of, refused-length}

@@ -1,8 +1,6 @@
 -- An item as it is read back where it was written: places and later indexes are worked out afresh.
 -- Assumes nothing.
-use Prim.Native.Nat.{ℕ, zero, suc, _+_, _≤_, _<_, _^_}
-use mathlib.Core.Path.{_≡_}
-use mathlib.Core.Bool.{true}
+use Prim.Native.Nat.{ℕ, zero, suc, _+_, _<_, _^_}
 use mathlib.Core.List.{List, [], _∷_}
 use lib.ListN.{length}
 use Rattle.numbers.specs.Shortest.{shortest}
@@ -19,8 +17,7 @@ use Rattle.log_item.specs.declared.LogItemContent.the-variants as conten
 use Rattle.log_item.specs.declared.LogItem.{LogItem}
 use Rattle.log_item.specs.declared.EntryIndex.{EntryIndex}
 use Rattle.log_item.specs.Each.{Each}
-use Rattle.log_item.specs.Refusing.{contentInside}
-use Rattle.log_item.specs.Written.{sumOf, rowLengths}
+use Rattle.log_item.specs.Written.{rowLengths}
 
 -- a span whose length is written at the place p: it is where its own bytes stand
 abbrev pub spanAt : ℕ → Span → Span
@@ -77,10 +74,3 @@ numbersOf (contents.Kv k) = k .key .len ∷ lengthOf (k .op)
 -- each is below 2^64
 abbrev pub Small : List ℕ → Type 0
 Small ns = Each (λ (n : ℕ). n < 2 ^ 64) ns
-
--- What a writer can write: spans in the store, numbers of 64 bits, a length for each row, and tails within the ceiling.
-pub record Writable (s : List ℕ) (x : LogItem) (lengths : List ℕ) (t : ℕ) : Type 0 where
-  pub spans : contentInside s (x .content) ≡ true
-  pub numbers : Small (x .«raft_group_id» ∷ numbersOf (x .content))
-  pub lent : entriesOf (x .content) .count ≤ length lengths
-  pub tails : sumOf t (rowLengths x lengths) ≤ 4294967295

@@ -38,7 +38,7 @@ use Rattle.field.specs.Prefix.{inside}
 use Rattle.log_item.specs.Refusing.{opInside, contentInside, contentRefusal}
 use Rattle.refusal.specs.First.{firstOf}
 use Rattle.log_item.specs.Written.{sumOf, rowLengths, itemBytes, tailRefusal, itemRefusal}
-use Rattle.log_item.specs.Relocated.{spanAt, keyAt, stated, contentAt, itemAt, rowsFrom, itemRows, spansOf, numbersOf, Small, Writable}
+use Rattle.log_item.specs.Relocated.{spanAt, keyAt, stated, contentAt, itemAt, rowsFrom, itemRows, spansOf, numbersOf, Small}
 use Rattle.log_item.proofs.Lengths.{and-both, part-length, span-length}
 use Rattle.log_item.proofs.Refusals.{untaken, taken, content-inside, content-allowed}
 use Rattle.log_item.proofs.Tails.{sum-rises}
@@ -160,6 +160,13 @@ module _ (s : List ℕ) {b : List ℕ} where
           let value = rw e at (span-kept v (both .1) (c .1)) in
           cc
       go Del i f = let key = span-kept (k .key) i (cut (2 ∷ []) f .1) in cc
+
+-- What a writer can write: spans in the store, numbers of 64 bits, a length for each row, and tails within the ceiling.
+pub record Writable (s : List ℕ) (x : LogItem) (lengths : List ℕ) (t : ℕ) : Type 0 where
+  pub spans : contentInside s (x .content) ≡ true
+  pub numbers : Small (x .«raft_group_id» ∷ numbersOf (x .content))
+  pub lent : entriesOf (x .content) .count ≤ length lengths
+  pub tails : sumOf t (rowLengths x lengths) ≤ 4294967295
 
 module _ (s : List ℕ) (x : LogItem) (lengths : List ℕ) (t : ℕ) (w : Writable s x lengths t) where
   rows-length : length (rowLengths x lengths) ≡ entriesOf (x .content) .count

@@ -1,5 +1,6 @@
 pub mod ItemRows
 pub mod ItemWritten
+pub mod Encoding
 pub mod ListWritten
 pub mod Accepts
 pub mod Listing

@@ -24,7 +24,7 @@ use Rattle.list_writer.specs.Answers.{encoded, encodedOf, laid}
 use Rattle.log_item.proofs.Refusals.{untaken}
 use Rattle.list_measure.proofs.Heads.{unless-fine}
 use Rattle.list_writer.proofs.Bodies.{accepted, body-length}
-use Rattle.one_reading.specs.Encoding.{Encodes, writes, leaves}
+use Rattle.one_reading.proofs.Encoding.{Encodes, writes, leaves}
 use Rattle.one_reading.proofs.ItemWritten.{first-none}
 
 -- ---- items

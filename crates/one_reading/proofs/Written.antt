@@ -26,7 +26,7 @@ use Rattle.one_reading.specs.Limits.{Within}
 use Rattle.log_item.specs.Spelling.{NumberIn}
 use Rattle.one_reading.specs.Spelling.{Items, end, then, Spells, list}
 use Rattle.log_item.specs.Place.{At}
-use Rattle.one_reading.specs.Encoding.{Encodes, writes, leaves}
+use Rattle.one_reading.proofs.Encoding.{Encodes, writes, leaves}
 use Rattle.field.specs.declared.Form.the-variants.{Any, Plain}
 use Rattle.log_item.specs.declared.LogItemContent.{LogItemContent}
 use Rattle.log_item.specs.declared.LogItemContent.the-variants as contents
@@ -39,9 +39,9 @@ use Rattle.one_reading.proofs.ItemRows.{each-append, item-length}
 use Rattle.log_item.proofs.Sound.{sound-item}
 use Rattle.log_item.specs.Refusing.{contentRefusal}
 use Rattle.log_item.specs.Written.{sumOf, rowLengths, itemBytes}
-use Rattle.log_item.specs.Relocated.{stated, contentAt, itemAt, itemRows, numbersOf, Small, Writable}
+use Rattle.log_item.specs.Relocated.{stated, contentAt, itemAt, itemRows, numbersOf, Small}
 use Rattle.log_item.proofs.Refusals.{content-inside, content-allowed}
-use Rattle.one_reading.proofs.ItemWritten.{first-small, written-item, read-item-at, spans-kept}
+use Rattle.one_reading.proofs.ItemWritten.{Writable, first-small, written-item, read-item-at, spans-kept}
 use Rattle.list_writer.specs.declared.Encoded.{Encoded}
 use Rattle.log_item.specs.Blank.{blankItem}
 use Rattle.list_measure.specs.Bytes.{itemsOf, itemsBytes, listBytes}

@@ -3,4 +3,3 @@ pub mod Spelling
 pub mod Acceptable
 pub mod Plain
 pub mod Rows
-pub mod Encoding
