@@ -7,7 +7,6 @@ ghost use Rattle.words.specs.Write.{placed};
 ghost use Rattle.log_item.specs.Private.{Room};
 use list_measure::Measured;
 use list_writer::Encoded;
-use list_writer::answer;
 
 // The lengths of a header and of a checksum, which LogBatch has as its own.
 pub const HEADER_LEN: usize = 16;
@@ -21,7 +20,7 @@ pub fn begin(m: Measured, items: usize, content: &[u8], out: &mut [u8]) -> Encod
     ensures { λ r. ⌜ FrontWritten m items (now (content .entry)) (now (out .entry)) r (now (out .exit)) ⌝ }
 {
     if 4294967295 < m.length {
-        return answer(refusal::OUTPUT_TOO_LONG, 0, 0);
+        return Encoded::new(refusal::OUTPUT_TOO_LONG, 0, 0);
     }
     let r = plan(m, items, content, out.len());
     if r.length == 0 {
@@ -38,23 +37,23 @@ fn plan(m: Measured, items: usize, content: &[u8], room: usize) -> Encoded
 {
     if items == 0 {
         if content.len() == 0 {
-            return answer(refusal::NONE, 0, 0);
+            return Encoded::new(refusal::NONE, 0, 0);
         }
     }
     if m.length == 0 {
-        return answer(m.number, m.item, 0);
+        return Encoded::new(m.number, m.item, 0);
     }
     if 2147483647 < m.total {
-        return answer(refusal::OUTPUT_TOO_LONG, 0, 0);
+        return Encoded::new(refusal::OUTPUT_TOO_LONG, 0, 0);
     }
     if m.total as usize != content.len() {
-        return answer(refusal::BLOCK_DIFFERS, 0, 0);
+        return Encoded::new(refusal::BLOCK_DIFFERS, 0, 0);
     }
     let size = body_offset(content) + m.length;
     if room < size {
-        return answer(refusal::OUTPUT_SHORT, 0, 0);
+        return Encoded::new(refusal::OUTPUT_SHORT, 0, 0);
     }
-    answer(refusal::NONE, 0, size)
+    Encoded::new(refusal::NONE, 0, size)
 }
 
 // Where the body stands behind a block of this content.

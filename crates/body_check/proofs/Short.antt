@@ -1,11 +1,10 @@
 -- A number of two or three bytes, read in any form.
 -- Assumes nothing.
 use Prim.Native.Nat.{ℕ, _+_, _-_, _*_, _^_, _%_, _≤_, _<_}
-use mathlib.Core.Path.{_≡_, refl, sym, ap, _∙_}
+use mathlib.Core.Path.{_≡_, sym, ap, _∙_}
 use mathlib.Core.List.{List}
 use native.Mathlib.Omega.{arith}
 use lib.ListN.{length, getD}
-use Rattle.numbers.specs.Number.{readNumber}
 use Rattle.numbers.specs.declared.NumberRead.the-variants.{Done}
 use Rattle.numbers.proofs.Reading.{first-long, turn-last, turn-more}
 use Rattle.field.specs.Got.{got}

@@ -47,6 +47,3 @@ xor-cancel-r a b c e = sym (xor-undo b a) ∙ ap (λ (x : ℕ). bitXor x a) e �
 
 pub xor-cancel-l : (a b c : ℕ) → bitXor a b ≡ bitXor a c → b ≡ c
 xor-cancel-l a b c e = xor-cancel-r a b c (xor-comm b a ∙ e ∙ xor-comm a c)
-
-pub xor-eq : (a b : ℕ) → bitXor a b ≡ 0 → a ≡ b
-xor-eq a b e = xor-cancel-r b a b (e ∙ sym (xor-self b))

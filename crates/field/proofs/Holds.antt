@@ -30,11 +30,6 @@ pub after : {A B : Type 0} {P : A → ℕ → Type 0} {Q : B → ℕ → Type 0}
 after (holds h) k = k _ _ h
 after refuses k = refuses
 
--- What has one property has another that follows.
-pub weaken : {A : Type 0} {P Q : A → ℕ → Type 0} {m : Got A} → Holds P m → ((x : A) (q : ℕ) → P x q → Q x q) → Holds Q m
-weaken (holds h) k = holds (k _ _ h)
-weaken refuses k = refuses
-
 module _ {B : Type 0} {Q : B → ℕ → Type 0} where
   -- A test, and what is read where it passes.
   pub tested : (b : Bool) (r : ℕ) (m : Reading B) (p : ℕ) → (T b → Holds Q (m p)) → Holds Q (_>>_ (b else r) m p)

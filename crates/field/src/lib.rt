@@ -1,6 +1,7 @@
 // The smallest pieces of an item, each read at a place of a lent body: a number, a byte, a span; and the bytes of a span.
 //
-// Every public function takes any arguments: a place may lie anywhere, past the end too. A refusal is a number of document 01.
+// Every public function takes any arguments: a place may lie anywhere, past the end too. A refusal is a number of document 01, or 8
+// where Form::Plain alone refuses.
 mod piece;
 mod prefix;
 

@@ -57,7 +57,7 @@ fn blank_entry() -> EntryIndex
     }
 }
 
-// The body without its footer.
+// The table of a body without its footer, or the empty table with the refusal.
 pub fn read_items(buf: &[u8]) -> LogItemBatch
     ensures { λ r. ⌜ r ≡ tableOf (record { at = 0; len = length (now (buf .entry)) }) (record { at = 0; len = 0 }) (readItems Form.Any (now (buf .entry))) ⌝ }
 {
@@ -65,7 +65,7 @@ pub fn read_items(buf: &[u8]) -> LogItemBatch
 }
 
 impl LogItemBatch {
-    // A table with no rows.
+    // A table with no rows, refused with this number at this item (0 and 0: not refused).
     pub fn empty(number: u32, item: usize) -> LogItemBatch
         ensures { λ r. ⌜ r ≡ emptyTable number item ⌝ }
     {
@@ -84,7 +84,7 @@ impl LogItemBatch {
         }
     }
 
-    // A body with its footer, under a signature.
+    // The table of a body with its footer, under a signature, or the empty table with the refusal.
     pub fn decode(body: &[u8], signature: u32) -> LogItemBatch
         ensures { λ r. ⌜ r ≡ tableOf (record { at = 0; len = length (now (body .entry)) }) (record { at = 0; len = 0 }) (readBody (now (body .entry)) signature) ⌝ }
     {

@@ -21,7 +21,7 @@ abbrev pub unlessItem : ℕ → ℕ → Verdict → Verdict
 unlessItem zero k v = v
 unlessItem (suc r) k v = refused (suc r) k
 
--- the items in order, the first of them with number k: `used` rows are behind, `lengths` are left, the total t runs on
+-- the items in order, the first of them with number k: items before use `used` rows, `lengths` are left, the total t runs on
 unfoldable pub itemsVerdict : List ℕ → Bool → List LogItem → List ℕ → ℕ → ℕ → ℕ → Verdict
 itemsVerdict s checked [] lengths used k t = fine t
 itemsVerdict s checked (x ∷ xs) lengths used k t =

@@ -7,8 +7,8 @@ use Rattle.list_writer.proofs.encode.Kinds as encode-kinds
 use Rattle.list_writer.proofs.encode.Reads as encode-reads
 use Rattle.list_writer.proofs.placing.Kinds as placing-kinds
 use Rattle.list_writer.proofs.placing.Reads as placing-reads
-use Rattle.list_writer.proofs.answer.Kinds as answer-kinds
-use Rattle.list_writer.proofs.answer.Reads as answer-reads
+use Rattle.list_writer.proofs.Encoded.new.Kinds as new-kinds
+use Rattle.list_writer.proofs.Encoded.new.Reads as new-reads
 use Rattle.list_writer.proofs.write_head.Kinds as write-head-kinds
 use Rattle.list_writer.proofs.write_head.Reads as write-head-reads
 use Rattle.list_writer.proofs.write_footer.Kinds as write-footer-kinds
@@ -20,8 +20,8 @@ encode κs a x y s t p q = let e : x ≡ y = p .0 ∙ sym (q .0) in (e, p .1 ∙
 pub placing : OneAnswer 0 placing-kinds.ps placing-kinds.r placing-reads.Post (λ κs x y s t. x ≡ y)
 placing κs a x y s t p q = p ∙ sym q
 
-pub answer : OneAnswer 0 answer-kinds.ps answer-kinds.r answer-reads.Post (λ κs x y s t. x ≡ y)
-answer κs a x y s t p q = p ∙ sym q
+pub new : OneAnswer 0 new-kinds.ps new-kinds.r new-reads.Post (λ κs x y s t. x ≡ y)
+new κs a x y s t p q = p ∙ sym q
 
 pub write-head : OneAnswer 2 write-head-kinds.ps write-head-kinds.r write-head-reads.Post (λ κs x y s t. (x ≡ y) × (now (s .1 .1 .0) ≡ now (t .1 .1 .0)))
 write-head κs a x y s t p q = (p .0 ∙ sym (q .0), p .1 ∙ sym (q .1))

@@ -26,6 +26,19 @@ pub struct Encoded {
     pub length: usize,
 }
 
+impl Encoded {
+    // An answer of these three: a refusal has length 0, and what was written number and item 0.
+    pub fn new(number: u32, item: usize, length: usize) -> Encoded
+        ensures { λ r. ⌜ r ≡ encoded number item length ⌝ }
+    {
+        Encoded {
+            number,
+            item,
+            length,
+        }
+    }
+}
+
 // Writes the body at a place of out, or leaves out as it was and says why.
 pub fn encode(
     items: [LogItem; 256],
@@ -75,26 +88,15 @@ pub fn placing(m: Measured, all: usize, at: usize) -> Encoded
     ensures { λ r. ⌜ r ≡ encodedIn m all at ⌝ }
 {
     if m.length == 0 {
-        return answer(m.number, m.item, 0);
+        return Encoded::new(m.number, m.item, 0);
     }
     if all < at {
-        return answer(refusal::OUTPUT_SHORT, 0, 0);
+        return Encoded::new(refusal::OUTPUT_SHORT, 0, 0);
     }
     if all - at < m.length {
-        return answer(refusal::OUTPUT_SHORT, 0, 0);
+        return Encoded::new(refusal::OUTPUT_SHORT, 0, 0);
     }
-    answer(refusal::NONE, 0, m.length)
-}
-
-// An answer with these three.
-pub fn answer(number: u32, item: usize, length: usize) -> Encoded
-    ensures { λ r. ⌜ r ≡ encoded number item length ⌝ }
-{
-    Encoded {
-        number,
-        item,
-        length,
-    }
+    Encoded::new(refusal::NONE, 0, m.length)
 }
 
 // Writes an item up to its tails and answers the place after it; or the place itself, where a span lies outside the store or it does not fit.

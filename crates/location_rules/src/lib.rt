@@ -92,11 +92,11 @@ fn fits(first: u64, n: usize) -> bool
     if n == 0 {
         return true;
     }
-    let room = 18446744073709551615 - first;
+    let room = u64::MAX - first;
     (n - 1) as u64 <= room
 }
 
-// Whether a table of n rows is well formed, by where a row of the wrong queue stands: the first before the count, and the first after it.
+// Whether a table of n rows is well formed, by where a row of the wrong queue stands: the first before the count, and the first at the count or after it.
 pub fn is_formed(table: Table, n: usize, front: usize, back: usize) -> bool
     ensures { λ r. ⌜ r ≡ wellFormedBy table n front back ⌝ }
 {

@@ -18,7 +18,7 @@ use Rattle.words.specs.Byte.{Bytes}
 use Rattle.words.proofs.Words.{length-little}
 use Rattle.crc.specs.Crc.{crcOf}
 use Rattle.seal.specs.Seal.{sealedPart, contentLength}
-use Rattle.field.specs.Got.{got, refused}
+use Rattle.field.specs.Got.{got}
 use Rattle.field.specs.Reading.{byte, number, span}
 use Rattle.log_item.specs.Reading.{command, putAt, keyValue, firstIndex, entryIndexes, content, head, tail, tails, oneItem}
 use Rattle.field.specs.declared.Span.{Span}

@@ -1,27 +1,20 @@
 -- What holds of each piece that was got.
 -- Assumes nothing.
 use Prim.Native.Nat.{ℕ, zero, suc, _+_, _^_, _≤_, _<_}
-use mathlib.Core.Path.{_≡_, refl}
+use mathlib.Core.Path.{_≡_}
 use mathlib.Core.List.{List}
 use native.Mathlib.Omega.{arith}
 use native.Mathlib.Nat.{eq-zero-or-pos}
 use mathlib.Core.Logic.{⊎-elim}
 use lib.Dec.{eqb}
-use lib.ListN.{length}
-use Rattle.numbers.specs.Shortest.{shortest}
-use Rattle.numbers.specs.Number.{readNumber}
-use Rattle.numbers.specs.declared.NumberRead.{NumberRead}
-use Rattle.numbers.specs.declared.NumberRead.the-variants.{Done, Eof, Overflow}
-use Rattle.numbers.proofs.Theorems.{read-moves}
-use Rattle.field.specs.Got.{got, done}
+use Rattle.field.specs.Got.{got}
 use Rattle.log_item.specs.Entries.{entriesOf}
-use Rattle.field.specs.Reading.{numberGot, byte, number}
+use Rattle.field.specs.Reading.{byte, number}
 use Rattle.log_item.specs.Reading.{command, keyValue, firstIndex, entryIndexes, content, head, tail}
 use Rattle.field.specs.declared.Form.{Form}
-use Rattle.field.specs.declared.Form.the-variants.{Any, Plain}
 use Rattle.log_item.specs.declared.EntryIndexes.{EntryIndexes}
 use Rattle.log_item.specs.declared.LogItem.{LogItem}
-use Rattle.field.proofs.Holds.{Holds, holds, refuses, after, later, at-most, tested, chosen, of-got}
+use Rattle.field.proofs.Holds.{Holds, holds, refuses, after, later, at-most, chosen, of-got}
 
 -- entries that may follow e others: what is stated of them where there is one
 pub record Fits (e : ℕ) (x : EntryIndexes) : Type 0 where

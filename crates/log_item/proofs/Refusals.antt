@@ -63,9 +63,6 @@ module _ (used rows : ℕ) (e : EntryIndexes) where
   unfolding entriesRefusal
   entries-fine h k l = rw (le-ltb 1024 (used + e .count) h, le-ltb rows (used + e .count) k) (index-fine (e .count) (e .«first_index») l)
 
-pub not-checked : (checked b : Bool) → checked ≡ false → false ≡ (checked && b)
-not-checked checked b e = rw e
-
 pub if-checked : (checked b : Bool) {r : Bool} → checked ≡ true → r ≡ b → r ≡ (checked && b)
 if-checked checked b e h = rw e h
 

@@ -1,4 +1,5 @@
--- What each answer of the code says in the words of the definitions. Each loses nothing: two answers that say the same are the same.
+-- What each answer of the code says in the words of the definitions: two answers that say the same are the same. And, for what makes no rows, the
+-- readings with the rows forgotten.
 -- Assumes nothing.
 use Prim.Native.Nat.{ℕ, _+_}
 use mathlib.Core.List.{List}
@@ -32,7 +33,7 @@ abbrev pub itemGot : ItemRead → Got Passed
 itemGot (item.Done x q u e) = got (record { item = x; total = u; used = e }) q
 itemGot (item.Refused r) = refused r
 
--- an item without its rows: how many they are
+-- an item, and the number of entries after it in the place of its rows
 unfoldable pub passItem : Form → List ℕ → ℕ → ℕ → Reading Passed
 passItem form s e t = do
   r ← oneItem form s e t

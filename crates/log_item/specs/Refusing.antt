@@ -18,7 +18,7 @@ abbrev pub indexRefusal : ℕ → ℕ → ℕ
 indexRefusal zero i = 0
 indexRefusal (suc n) i = cond (leb (i + n) 18446744073709551615) 0 17
 
--- 14, 13, 17: `used` rows are behind, of `rows` that are lent
+-- 14, 13, 17: items before use `used` of the `rows` that are lent
 unfoldable pub entriesRefusal : ℕ → ℕ → EntryIndexes → ℕ
 entriesRefusal used rows e =
     cond (ltb 1024 (used + e .count)) 14

@@ -61,7 +61,7 @@ itemBytes s x lengths t = headBytes s x ++ tailsBytes (rowLengths x lengths) t
 abbrev pub tailRefusal : LogItem → List ℕ → ℕ → ℕ
 tailRefusal x lengths t = cond (ltb 4294967295 (sumOf t (rowLengths x lengths))) 16 0
 
--- 14, 13, 17 or 13, then 16, then 21
+-- entries 14, 13, 17, 16; a key 13; then 21
 unfoldable pub itemRefusal : List ℕ → LogItem → List ℕ → ℕ → List ℕ → ℕ → ℕ
 itemRefusal s x lengths t out at =
     firstOf (contentRefusal s false 0 (length lengths) (x .content))

@@ -1,7 +1,8 @@
 // One item of a log batch: its types, reading it at a place of a lent body, and writing it at a place of a lent buffer. From log_batch.rs,
 // EntryIndexes to LogItem.
 //
-// Every public function takes any arguments: a place may lie anywhere, past the end too. A refusal is a number of document 01.
+// Every public function takes any arguments: a place may lie anywhere, past the end too. A refusal is a number of document 01, or 8
+// where Form::Plain alone refuses.
 mod entries;
 mod measuring;
 mod refusing;

@@ -37,7 +37,7 @@ use codec::Wrote;
 use field::Span;
 
 impl LogItem {
-    // What writing an item takes, with `used` rows behind it of the `rows` that are lent; put keys are looked at where `checked`.
+    // What writing an item takes, where items before it use `used` of the `rows` that are lent; put keys are looked at where `checked`.
     pub fn measure(item: LogItem, store: &[u8], checked: bool, used: usize, rows: usize) -> Head
         ensures { λ r. ⌜ r ≡ measureItem (now (store .entry)) checked used rows item ⌝ }
     {

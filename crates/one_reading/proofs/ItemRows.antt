@@ -1,6 +1,6 @@
 -- The rows of an item: how many there are, and how their spans and indexes lie.
 -- Assumes nothing.
-use Prim.Native.Nat.{ℕ, _+_, _-_, _≤_}
+use Prim.Native.Nat.{ℕ, _+_, _-_}
 use mathlib.Core.Path.{_≡_, refl}
 use mathlib.Core.List.{List, [], _∷_, _++_}
 use native.Mathlib.Omega.{arith}
@@ -45,11 +45,6 @@ module _ {N : ℕ → List ℕ → Type 0} where
 pub joined-append : {t v u : ℕ} {a b : List EntryIndex} → Joined t v a → Joined v u b → Joined t u (a ++ b)
 joined-append lie.Joined.end g = g
 joined-append (lie.Joined.then e h) g = lie.Joined.then e (joined-append h g)
-
--- Entry spans do not go back.
-pub joined-rises : {t u : ℕ} {rows : List EntryIndex} → Joined t u rows → t ≤ u
-joined-rises lie.Joined.end = omega arith
-joined-rises (lie.Joined.then e h) = omega (arith, joined-rises h)
 
 module _ {P : EntryIndex → Type 0} where
   -- What each row of two lists has, each row of both together has.

@@ -60,7 +60,7 @@ pub fn read_items(buf: &[u8], wanted: Wanted, items: &mut [u64], entries: &mut [
     }
 }
 
-// The same of a body with its footer, under a signature.
+// What a body with its footer holds, under a signature; 21 where its rows do not fit.
 pub fn read_body(body: &[u8], signature: u32, items: &mut [u64], entries: &mut [u64]) -> BodyCheck
     ensures { λ r. ⌜ RowsRead (readBody (now (body .entry)) signature) (now (items .entry)) (now (entries .entry)) r (now (items .exit)) (now (entries .exit)) ⌝ }
 {

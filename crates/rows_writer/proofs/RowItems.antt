@@ -62,7 +62,7 @@ module _ (words : List ℕ) where
   unfolding rowItems
   items-few = from-few (itemRowCount words) 0
 
-  -- Each row itemBefore the first that is none has its item.
+  -- Each row before the first that is none has its item.
   row-good : (i : ℕ) → i < length (rowItems words) → itemOfRow words i ≡ Item (getD (rowItems words) i blankItem)
   unfolding rowItems
   row-good i h = let z : i ≡ 0 + i = omega arith in ap (itemOfRow words) z ∙ from-at (itemRowCount words) 0 i h
@@ -74,7 +74,7 @@ module _ (words : List ℕ) where
       let z : length (itemsFrom words (itemRowCount words) 0) ≡ 0 + length (itemsFrom words (itemRowCount words) 0) = omega arith in
       record { number = b .number; told = ap (itemOfRow words) z ∙ b .told }
 
-  -- No row itemBefore the end is none.
+  -- No row before the end is none.
   pub row-never : {A : Type 0} {r : ℕ} (i : ℕ) → i < length (rowItems words) → itemOfRow words i ≡ Refused r → A
   row-never i h e =
       let f = row-good i h in

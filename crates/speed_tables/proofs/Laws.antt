@@ -1,7 +1,7 @@
 -- A body written again: a law for each way out of the code.
 -- Assumes nothing.
 use Prim.Native.Nat.{ℕ, zero, suc}
-use mathlib.Core.Path.{_≡_, refl, sym, ap, _∙_}
+use mathlib.Core.Path.{_≡_, refl, ap, _∙_}
 use mathlib.Core.Bool.{false}
 use mathlib.Core.List.{List, [], _∷_}
 use Rattle.refusal.specs.First.{ifNone}
@@ -10,7 +10,7 @@ use Rattle.list_writer.specs.Bytes.{bodyBytes}
 use Rattle.list_writer.specs.Answers.{encoded, laid}
 use Rattle.item_batch.specs.declared.LogItemBatch.{LogItemBatch}
 use Rattle.item_batch.specs.Writing.{BodyWritten, listed, tableLengths}
-use Rattle.item_row.specs.Reply.{Reply, reply}
+use Rattle.item_row.specs.Reply.{reply}
 use Rattle.speed_tables.specs.Again.{again, lengthReply, WrittenAgain}
 
 module _ (e : Encoded) where

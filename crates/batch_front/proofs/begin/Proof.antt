@@ -5,11 +5,11 @@ use borrow.Author.Needs.{needs}
 use Rattle.batch_front.proofs.begin.Statement.{statement}
 use Rattle.batch_front.proofs.begin.Tie as tie
 
-answer-requires : tie.Need-answer-requires
-answer-requires c κs = search needs
+new-requires : tie.Need-new-requires
+new-requires c κs = search needs
 
 returns : tie.Need-returns
-returns c = begun-long _ _ _ _ (c .before .if1 .taken) (c .answer .ensures)
+returns c = begun-long _ _ _ _ (c .before .if1 .taken) (c .new .ensures)
 
 plan-requires : tie.Need-plan-requires
 plan-requires c κs = search needs
@@ -30,7 +30,7 @@ pub begin-spec : {M : Type 1} → statement M
 begin-spec =
     tie.close
     (tie.spec
-    answer-requires
+    new-requires
     returns
     plan-requires
     returns-2

@@ -7,32 +7,32 @@ use borrow.Author.Needs.{needs}
 use Rattle.batch_front.proofs.plan.Statement.{statement}
 use Rattle.batch_front.proofs.plan.Tie as tie
 
-answer-requires : tie.Need-answer-requires
-answer-requires c κs = search needs
+new-requires : tie.Need-new-requires
+new-requires c κs = search needs
 
 returns : tie.Need-returns
-returns c = nothing _ _ _ _ (c .before .before .if1 .taken) (c .before .if2 .taken) (c .answer .ensures)
+returns c = nothing _ _ _ _ (c .before .before .if1 .taken) (c .before .if2 .taken) (c .new .ensures)
 
-answer-requires-2 : tie.Need-answer-requires-2
-answer-requires-2 c κs = search needs
+new-requires-2 : tie.Need-new-requires-2
+new-requires-2 c κs = search needs
 
 returns-2 : tie.Need-returns-2
-returns-2 c = refused-body _ _ _ _ (⊎-elim (λ w. inr (w .1 .left)) (λ w. inl (w .left)) (c .before .before .before .if1 .came)) (c .before .if3 .taken) (c .answer2 .ensures)
+returns-2 c = refused-body _ _ _ _ (⊎-elim (λ w. inr (w .1 .left)) (λ w. inl (w .left)) (c .before .before .before .if1 .came)) (c .before .if3 .taken) (c .new2 .ensures)
 
-answer-requires-3 : tie.Need-answer-requires-3
-answer-requires-3 c κs = search needs
+new-requires-3 : tie.Need-new-requires-3
+new-requires-3 c κs = search needs
 
 returns-3 : tie.Need-returns-3
-returns-3 c = refused-22 _ _ _ _ (⊎-elim (λ w. inr (w .1 .left)) (λ w. inl (w .left)) (c .before .before .before .before .before .if1 .came)) (c .before .before .before .if3 .left) (c .before .if4 .taken) (c .answer3 .ensures)
+returns-3 c = refused-22 _ _ _ _ (⊎-elim (λ w. inr (w .1 .left)) (λ w. inl (w .left)) (c .before .before .before .before .before .if1 .came)) (c .before .before .before .if3 .left) (c .before .if4 .taken) (c .new3 .ensures)
 
 cast-if5 : tie.Need-cast-if5
 cast-if5 c = search needs
 
-answer-requires-4 : tie.Need-answer-requires-4
-answer-requires-4 c κs = search needs
+new-requires-4 : tie.Need-new-requires-4
+new-requires-4 c κs = search needs
 
 returns-4 : tie.Need-returns-4
-returns-4 c = refused-20 _ _ _ _ (⊎-elim (λ w. inr (w .1 .left)) (λ w. inl (w .left)) (c .before .before .before .before .before .before .before .if1 .came)) (c .before .before .before .before .before .if3 .left) (c .before .before .before .if4 .left) (c .before .if5 .taken) (c .answer4 .ensures)
+returns-4 c = refused-20 _ _ _ _ (⊎-elim (λ w. inr (w .1 .left)) (λ w. inl (w .left)) (c .before .before .before .before .before .before .before .if1 .came)) (c .before .before .before .before .before .if3 .left) (c .before .before .before .if4 .left) (c .before .if5 .taken) (c .new4 .ensures)
 
 body-offset-requires : tie.Need-body-offset-requires
 body-offset-requires c κs = search needs
@@ -40,34 +40,34 @@ body-offset-requires c κs = search needs
 add-size : tie.Need-add-size
 add-size c = omega (arith, c .before .body-offset .ensures, block-small (c .before .before .before .before .before .before .before .before .before .before .args .content .now))
 
-answer-requires-5 : tie.Need-answer-requires-5
-answer-requires-5 c κs = search needs
+new-requires-5 : tie.Need-new-requires-5
+new-requires-5 c κs = search needs
 
 returns-5 : tie.Need-returns-5
-returns-5 c = refused-21 _ _ _ _ (⊎-elim (λ w. inr (w .1 .left)) (λ w. inl (w .left)) (c .before .before .before .before .before .before .before .before .before .before .if1 .came)) (c .before .before .before .before .before .before .before .before .if3 .left) (c .before .before .before .before .before .before .if4 .left) (c .before .before .before .before .if5 .left) (c .before .before .before .body-offset .ensures) (c .before .if6 .taken) (c .answer5 .ensures)
+returns-5 c = refused-21 _ _ _ _ (⊎-elim (λ w. inr (w .1 .left)) (λ w. inl (w .left)) (c .before .before .before .before .before .before .before .before .before .before .if1 .came)) (c .before .before .before .before .before .before .before .before .if3 .left) (c .before .before .before .before .before .before .if4 .left) (c .before .before .before .before .if5 .left) (c .before .before .before .body-offset .ensures) (c .before .if6 .taken) (c .new5 .ensures)
 
-answer-requires-6 : tie.Need-answer-requires-6
-answer-requires-6 c κs = search needs
+new-requires-6 : tie.Need-new-requires-6
+new-requires-6 c κs = search needs
 
 returns-6 : tie.Need-returns-6
-returns-6 c = written-whole _ _ _ _ (⊎-elim (λ w. inr (w .1 .left)) (λ w. inl (w .left)) (c .before .before .before .before .before .before .before .before .before .before .if1 .came)) (c .before .before .before .before .before .before .before .before .if3 .left) (c .before .before .before .before .before .before .if4 .left) (c .before .before .before .before .if5 .left) (c .before .before .before .body-offset .ensures) (c .before .if6 .left) (c .answer6 .ensures)
+returns-6 c = written-whole _ _ _ _ (⊎-elim (λ w. inr (w .1 .left)) (λ w. inl (w .left)) (c .before .before .before .before .before .before .before .before .before .before .if1 .came)) (c .before .before .before .before .before .before .before .before .if3 .left) (c .before .before .before .before .before .before .if4 .left) (c .before .before .before .before .if5 .left) (c .before .before .before .body-offset .ensures) (c .before .if6 .left) (c .new6 .ensures)
 
 pub plan-spec : {M : Type 1} → statement M
 plan-spec =
     tie.close
     (tie.spec
-    answer-requires
+    new-requires
     returns
-    answer-requires-2
+    new-requires-2
     returns-2
-    answer-requires-3
+    new-requires-3
     returns-3
     cast-if5
-    answer-requires-4
+    new-requires-4
     returns-4
     body-offset-requires
     add-size
-    answer-requires-5
+    new-requires-5
     returns-5
-    answer-requires-6
+    new-requires-6
     returns-6)

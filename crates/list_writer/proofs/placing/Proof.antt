@@ -7,39 +7,39 @@ use Rattle.list_writer.proofs.Bodies.{placing-refused, placing-21, plac
 use Rattle.list_writer.proofs.placing.Statement.{statement}
 use Rattle.list_writer.proofs.placing.Tie as tie
 
-answer-requires : tie.Need-answer-requires
-answer-requires c κs = search needs
+new-requires : tie.Need-new-requires
+new-requires c κs = search needs
 
 returns : tie.Need-returns
-returns c = let a = c .before .before .before .args in c .answer .ensures ∙ placing-refused (a .m) (a .all) (a .at) (c .before .if1 .taken)
+returns c = let a = c .before .before .before .args in c .new .ensures ∙ placing-refused (a .m) (a .all) (a .at) (c .before .if1 .taken)
 
-answer-requires-2 : tie.Need-answer-requires-2
-answer-requires-2 c κs = search needs
+new-requires-2 : tie.Need-new-requires-2
+new-requires-2 c κs = search needs
 
 returns-2 : tie.Need-returns-2
-returns-2 c = let a = c .before .before .before .before .args in c .answer2 .ensures ∙ placing-21 (a .m) (a .all) (a .at) (c .before .before .if1 .left) (omega arith)
+returns-2 c = let a = c .before .before .before .before .args in c .new2 .ensures ∙ placing-21 (a .m) (a .all) (a .at) (c .before .before .if1 .left) (omega arith)
 
-answer-requires-3 : tie.Need-answer-requires-3
-answer-requires-3 c κs = search needs
+new-requires-3 : tie.Need-new-requires-3
+new-requires-3 c κs = search needs
 
 returns-3 : tie.Need-returns-3
-returns-3 c = let a = c .before .before .before .before .before .before .args in c .answer3 .ensures ∙ placing-21 (a .m) (a .all) (a .at) (c .before .before .before .before .if1 .left) (omega arith)
+returns-3 c = let a = c .before .before .before .before .before .before .args in c .new3 .ensures ∙ placing-21 (a .m) (a .all) (a .at) (c .before .before .before .before .if1 .left) (omega arith)
 
-answer-requires-4 : tie.Need-answer-requires-4
-answer-requires-4 c κs = search needs
+new-requires-4 : tie.Need-new-requires-4
+new-requires-4 c κs = search needs
 
 returns-4 : tie.Need-returns-4
-returns-4 c = let a = c .before .before .before .before .before .before .args in c .answer4 .ensures ∙ placing-fits (a .m) (a .all) (a .at) (c .before .before .before .before .if1 .left) (omega arith)
+returns-4 c = let a = c .before .before .before .before .before .before .args in c .new4 .ensures ∙ placing-fits (a .m) (a .all) (a .at) (c .before .before .before .before .if1 .left) (omega arith)
 
 pub placing-spec : {M : Type 1} → statement M
 placing-spec =
     tie.close
     (tie.spec
-    answer-requires
+    new-requires
     returns
-    answer-requires-2
+    new-requires-2
     returns-2
-    answer-requires-3
+    new-requires-3
     returns-3
-    answer-requires-4
+    new-requires-4
     returns-4)
