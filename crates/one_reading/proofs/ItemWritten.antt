@@ -251,3 +251,20 @@ encode-accepted s x lengths t out at (one g z) h =
       few = omega (arith, allowed .few (omega arith));
       last = allowed .last (omega (arith, first-small (x .content) z));
     }
+
+-- ---- what is promised
+
+module _ (s : List ℕ) (x : LogItem) (lengths : List ℕ) (t : ℕ) (out : List ℕ) (at : ℕ) (small : Small (x .«raft_group_id» ∷ numbersOf (x .content)))
+    (fine : itemRefusal s x lengths t out at ≡ 0) where
+  -- What `LogItem::encode` does not refuse is spelled, with shortest numbers, by the item with its places worked out.
+  pub encode-spelled : OneItem (NumberIn Plain) (itemAt at x) (itemRows x lengths t) t (sumOf t (rowLengths x lengths)) at (itemBytes s x lengths t)
+  encode-spelled = written-item s x lengths t (encode-accepted s x lengths t out at small fine .writable) at
+
+  -- It is read back, and its spans have the bytes that they had in the store.
+  pub encode-read-back : (form : Form) (e : ℕ) → e + entriesOf (x .content) .count ≤ 1024
+      → (oneItem form (placed out at (itemBytes s x lengths t)) e t at
+      ≡ got (record { item = itemAt at x; rows = itemRows x lengths t; total = sumOf t (rowLengths x lengths) }) (at + length (itemBytes s x lengths t)))
+      × (map (bytesOf (placed out at (itemBytes s x lengths t))) (spansOf (itemAt at x .content)) ≡ map (bytesOf s) (spansOf (x .content)))
+  encode-read-back form e few =
+      let a = encode-accepted s x lengths t out at small fine in
+      read-written-item s x lengths t (a .writable) form e out at (a .room) few (a .last)
