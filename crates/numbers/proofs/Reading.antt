@@ -151,3 +151,10 @@ first-long s at b h e t = rw e (first-more s at h (omega arith))
 
 pub first-one : (s : List ℕ) (at b : ℕ) → at < length s → b ≡ getD s at 0 → b < 128 → Done b (at + 1) ≡ readNumber s at
 first-one s at b h e t = rw e (sym (first-last s at h (omega arith)))
+
+pub first-two : (s : List ℕ) (at a b : ℕ) → at + 1 < length s → a ≡ getD s at 0 → b ≡ getD s (at + 1) 0 → 128 ≤ a → b < 128
+    → Done (a - 128 + (b * 2 ^ 7) % 2 ^ 64) (at + 2) ≡ readNumber s at
+first-two s at a b room ea eb more t =
+    let p : at + 1 + 1 ≡ at + 2 = omega arith in
+    ap (λ (q : ℕ). Done (a - 128 + (b * 2 ^ 7) % 2 ^ 64) q) (sym p)
+    ∙ turn-last s at _ 1 (a - 128) (first-long s at a (omega arith) ea more) b eb (omega arith) room t

@@ -40,7 +40,8 @@ pub fn decode_var_u64(buf: &[u8], at: usize) -> NumberRead
     decode_up_to(buf, at, first, least(buf.len() - at, 9))
 }
 
-// The same, quicker for long numbers and too large to be put in line at many places: the loop over nine bytes is unrolled.
+// The same, quicker for a number by itself and too large to be put in line at many places: two bytes are a case of their own, and the loop
+// over nine bytes is unrolled.
 pub fn decode_var_u64_unrolled(buf: &[u8], at: usize) -> NumberRead
     ensures { λ r. ⌜ r ≡ readNumber (now (buf .entry)) at ⌝ }
 {
@@ -55,6 +56,13 @@ pub fn decode_var_u64_unrolled(buf: &[u8], at: usize) -> NumberRead
         return NumberRead::Done {
             value: first,
             next: at + 1,
+        };
+    }
+    let second = wide(buf[at + 1]);
+    if second < 128 {
+        return NumberRead::Done {
+            value: first - 128 + (second << 7),
+            next: at + 2,
         };
     }
     decode_up_to(buf, at, first, 9)

@@ -1,9 +1,9 @@
--- `numbers::decode_var_u64_unrolled` meets its contract: fewer than nine bytes by `decode_var_u64`, one byte by itself, the rest by the loop.
+-- `numbers::decode_var_u64_unrolled` meets its contract: fewer than nine bytes by `decode_var_u64`, one byte and two by themselves, the rest by the loop.
 -- Assumes nothing.
 use mathlib.Core.Path.{sym}
 use native.Mathlib.Omega.{arith}
 use borrow.Author.Needs.{needs}
-use Rattle.numbers.proofs.Reading.{first-short, first-one}
+use Rattle.numbers.proofs.Reading.{first-short, first-one, first-two}
 use Rattle.numbers.proofs.decode_var_u64_unrolled.Statement.{statement}
 use Rattle.numbers.proofs.decode_var_u64_unrolled.Tie as tie
 
@@ -25,19 +25,41 @@ shared-slice-read-wide c = search needs
 wide-requires : tie.Need-wide-requires
 wide-requires c κs = search needs
 
-add-t9 : tie.Need-add-t9
-add-t9 c = search needs
+add-t10 : tie.Need-add-t10
+add-t10 c = search needs
 
 returns-3 : tie.Need-returns-3
 returns-3 c = first-one _ _ _ (omega arith) (c .before .wide .ensures) (c .if3 .taken)
 
-decode-up-to-requires : tie.Need-decode-up-to-requires
-decode-up-to-requires c κs =
-    let known = c .before .before .shared-slice-known2 .given (c .before .before .before .before .before .before .args .at) in
-    (search needs, c .before .wide .ensures, search needs, omega arith, omega arith)
+add-wide : tie.Need-add-wide
+add-wide c = search needs
+
+shared-slice-read-wide-2 : tie.Need-shared-slice-read-wide-2
+shared-slice-read-wide-2 c = search needs
+
+wide-requires-2 : tie.Need-wide-requires-2
+wide-requires-2 c κs = search needs
+
+add-t14 : tie.Need-add-t14
+add-t14 c =
+    let known = c .before .before .before .before .before .shared-slice-known2 .given (c .before .before .before .before .before .before .before .before .before .args .at) in
+    let same = c .before .before .before .before .wide .ensures in
+    omega arith
+
+add-t15 : tie.Need-add-t15
+add-t15 c = search needs
 
 returns-4 : tie.Need-returns-4
-returns-4 c = search needs
+returns-4 c =
+    first-two _ _ _ _ (omega arith) (c .before .before .before .before .wide .ensures) (c .before .wide2 .ensures) (c .before .before .before .if3 .left) (c .if4 .taken)
+
+decode-up-to-requires : tie.Need-decode-up-to-requires
+decode-up-to-requires c κs =
+    let known = c .before .before .before .before .before .shared-slice-known2 .given (c .before .before .before .before .before .before .before .before .before .args .at) in
+    (search needs, c .before .before .before .before .wide .ensures, search needs, omega arith, omega arith)
+
+returns-5 : tie.Need-returns-5
+returns-5 c = search needs
 
 pub decode-var-u64-unrolled-spec : {M : Type 1} → statement M
 decode-var-u64-unrolled-spec =
@@ -49,7 +71,13 @@ decode-var-u64-unrolled-spec =
     returns-2
     shared-slice-read-wide
     wide-requires
-    add-t9
+    add-t10
     returns-3
+    add-wide
+    shared-slice-read-wide-2
+    wide-requires-2
+    add-t14
+    add-t15
+    returns-4
     decode-up-to-requires
-    returns-4)
+    returns-5)
