@@ -1,12 +1,16 @@
 -- What telling the status of an item comes to: a law for each way out of the code.
 -- Assumes nothing.
-use Prim.Native.Nat.{ℕ, zero, suc}
+use Prim.Native.Nat.{ℕ, zero, suc, _+_, _<_}
 use mathlib.Core.Path.{_≡_, refl, sym, _∙_}
-use mathlib.Core.Bool.{Bool, true, false}
-use mathlib.Core.List.{List}
+use mathlib.Core.Bool.{Bool, true, false, _&&_, and-true, and-assoc}
+use mathlib.Core.List.{List, [], _∷_, _++_}
+use native.Mathlib.Omega.{arith}
 use borrow.Author.Tests.{eq-eqb, ne-eqb}
-use lib.ListN.{getD}
-use Rattle.field.specs.Prefix.{begins, bytesOf}
+use lib.Dec.{eqb}
+use lib.ListN.{length, getD, drop, length-take, length-drop}
+use lib.Seq.{getD-drop, getD-take}
+use Rattle.field.proofs.Inside.{inside-bound}
+use Rattle.field.specs.Prefix.{prefix, begins, bytesOf}
 use Rattle.field.specs.declared.Span.{Span}
 use Rattle.log_item.specs.declared.Op.the-variants.{Put, Del}
 use Rattle.log_item.specs.declared.Command.{Command}
@@ -18,16 +22,36 @@ use Rattle.atomic_status.specs.declared.AtomicGroupStatus.the-variants.{
 use Rattle.atomic_status.specs.declared.StatusRead.{StatusRead}
 use Rattle.atomic_status.specs.declared.StatusRead.the-variants.{Mark, NoMark, Refused}
 use Rattle.field.specs.Prefix.{inside}
-use Rattle.atomic_status.specs.Status.{markKey, isMark, statusByte, markOf, statusOf}
+use Rattle.atomic_status.specs.Status.{isMark, statusByte, markOf, statusOf}
 
 -- ---- the key of a mark
+
+-- bytes begin with a list and one byte more where they begin with the list and the byte stands after it
+begins-more : (bs ps : List ℕ) (x : ℕ) → length ps < length bs → begins bs (ps ++ (x ∷ [])) ≡ (begins bs ps && eqb (getD bs (length ps) 0) x)
+unfolding begins
+begins-more [] ps x h = absurd (omega arith)
+begins-more (b ∷ []) [] x h = and-true (eqb b x)
+begins-more (b ∷ c ∷ bs) [] x h = and-true (eqb b x)
+begins-more (b ∷ bs) (p ∷ ps) x h = rw (begins-more bs ps x (omega arith)) (sym (and-assoc (eqb b p) (begins bs ps) (eqb (getD bs (length ps) 0) x)))
 
 module _ (s : List ℕ) (k : Span) where
   pub mark-length : (k .len ≡ 3 → ⊥) → false ≡ isMark s k
   mark-length h = rw (ne-eqb _ _ h)
 
-  pub mark-bytes : {r : Bool} → k .len ≡ 3 → r ≡ begins (bytesOf s k) markKey → r ≡ isMark s k
-  mark-bytes h e = rw (eq-eqb _ _ h) e
+  module _ (i : inside s k ≡ true) (n : k .len ≡ 3) where
+    third : isMark s k ≡ (begins (bytesOf s k) prefix && eqb (getD s (k .at + 2) 0) 1)
+    third =
+        let l = inside-bound s k i in
+        let m = length-take (k .len) (drop (k .at) s) in
+        let o = length-drop (k .at) s in
+        let w : 2 < k .len = omega arith in
+        rw (eq-eqb _ _ n) (begins-more (bytesOf s k) prefix 1 (omega arith) ∙ rw (getD-take, getD-drop))
+
+    pub mark-other : {a : Bool} → a ≡ begins (bytesOf s k) prefix → a ≡ false → false ≡ isMark s k
+    mark-other e h = sym (third ∙ rw (sym e ∙ h))
+
+    pub mark-byte : {a : Bool} → a ≡ begins (bytesOf s k) prefix → a ≡ true → eqb (getD s (k .at + 2) 0) 1 ≡ isMark s k
+    mark-byte e h = sym (third ∙ rw (sym e ∙ h))
 
 -- ---- the status byte
 

@@ -1,5 +1,7 @@
 // The status of an atomic group, which an item may mark. From log_batch.rs, AtomicGroupStatus.
 ghost use mathlib.Core.Path.{_≡_};
+ghost use mathlib.Core.Bool.{true};
+ghost use Rattle.field.specs.Prefix.{inside};
 ghost use Rattle.atomic_status.specs.Status.{isMark, statusByte, markOf, statusOf};
 use log_item::LogItem;
 use log_item::LogItemContent;
@@ -47,6 +49,7 @@ impl AtomicGroupStatus {
 
 // What a put marks, its key lying in the store.
 fn put_status(group: u64, key: Span, value: Span, store: &[u8]) -> StatusRead
+    requires { ⌜ inside (now store) key ≡ true ⌝ }
     ensures { λ r. ⌜ r ≡ markOf group key (Op.Put value) (now (store .entry)) ⌝ }
 {
     if !log_item::lies_in(store, value) {
@@ -99,12 +102,17 @@ fn outside() -> StatusRead
     })
 }
 
-// Whether a key is the internal prefix and the byte 01.
+// Whether a key, which lies in the store, is the internal prefix and the byte 01.
 fn is_mark(store: &[u8], key: Span) -> bool
+    requires { ⌜ inside (now store) key ≡ true ⌝ }
     ensures { λ r. ⌜ r ≡ isMark (now (store .entry)) key ⌝ }
 {
+    let at = key.at;
     if key.len != 3 {
         return false;
     }
-    log_item::starts_with(store, key, b"__\x01")
+    if !log_item::is_internal_key(store, key) {
+        return false;
+    }
+    store[at + 2] == 1
 }

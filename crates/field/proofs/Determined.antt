@@ -17,8 +17,6 @@ use Rattle.field.proofs.prefix.lies_in.Kinds as lies-in-kinds
 use Rattle.field.proofs.prefix.lies_in.Reads as lies-in-reads
 use Rattle.field.proofs.prefix.is_internal_key.Kinds as is-internal-key-kinds
 use Rattle.field.proofs.prefix.is_internal_key.Reads as is-internal-key-reads
-use Rattle.field.proofs.prefix.starts_with.Kinds as starts-with-kinds
-use Rattle.field.proofs.prefix.starts_with.Reads as starts-with-reads
 
 -- An answer says in the words of the definitions all that it says.
 field-same : (a b : Field) → fieldGot a ≡ fieldGot b → a ≡ b
@@ -47,6 +45,3 @@ lies-in κs a x y s t p q = p ∙ sym q
 
 pub is-internal-key : OneAnswer 1 is-internal-key-kinds.ps is-internal-key-kinds.r is-internal-key-reads.Post (λ κs x y s t. x ≡ y)
 is-internal-key κs a x y s t p q = p ∙ sym q
-
-pub starts-with : OneAnswer 2 starts-with-kinds.ps starts-with-kinds.r starts-with-reads.Post (λ κs x y s t. x ≡ y)
-starts-with κs a x y s t p q = p ∙ sym q

@@ -10,7 +10,6 @@ pub use piece::read_number;
 pub use piece::read_span;
 pub use prefix::is_internal_key;
 pub use prefix::lies_in;
-pub use prefix::starts_with;
 
 // Where bytes stand in the body.
 pub struct Span {

@@ -24,7 +24,7 @@ pub fn is_internal_key(store: &[u8], key: Span) -> bool
 }
 
 // Whether the bytes of a span begin with `start`. Bytes of the span that lie outside the store are not there.
-pub fn starts_with(store: &[u8], span: Span, start: &[u8]) -> bool
+fn starts_with(store: &[u8], span: Span, start: &[u8]) -> bool
     ensures { λ r. ⌜ r ≡ begins (bytesOf (now (store .entry)) span) (now (start .entry)) ⌝ }
 {
     let at = span.at;

@@ -18,7 +18,6 @@ pub use field::lies_in;
 pub use field::read_byte;
 pub use field::read_number;
 pub use field::read_span;
-pub use field::starts_with;
 ghost use mathlib.Core.Path.{_≡_};
 ghost use Rattle.log_item.specs.Entries.{entriesOf};
 ghost use Rattle.log_item.specs.Reading.{command, putAt, keyValue, entryIndexes, content, head, tail};

@@ -1,23 +1,39 @@
 -- `atomic_status::is_mark` meets its contract.
 -- Assumes nothing.
+use borrow.Author.Tests.{not-true, not-false}
 use denote.Ref.{now}
-use Rattle.atomic_status.proofs.Marks.{mark-length, mark-bytes}
+use Rattle.field.proofs.Inside.{inside-bound}
+use Rattle.atomic_status.proofs.Marks.{mark-length, mark-other, mark-byte}
+use native.Mathlib.Omega.{arith}
 use borrow.Author.Needs.{needs}
 use Rattle.atomic_status.proofs.is_mark.Statement.{statement}
 use Rattle.atomic_status.proofs.is_mark.Tie as tie
 
 returns : tie.Need-returns
-returns c = mark-length (now (c .before .before .before .args .store)) (c .before .before .before .args .key) (c .if1 .taken)
+returns c = let f = c .before .before .before in mark-length (now (f .args .store)) (f .args .key) (c .if1 .taken)
 
-slice-aggregate-starts-with : tie.Need-slice-aggregate-starts-with
-slice-aggregate-starts-with c = search needs
-
-starts-with-requires : tie.Need-starts-with-requires
-starts-with-requires c κs = search needs
+is-internal-key-requires : tie.Need-is-internal-key-requires
+is-internal-key-requires c κs = search needs
 
 returns-2 : tie.Need-returns-2
-returns-2 c = mark-bytes (now (c .before .before .before .before .before .args .store)) (c .before .before .before .before .before .args .key) (c .before .before .if1 .left) (c .starts-with .ensures)
+returns-2 c = let f = c .before .before .before .before .before in mark-other (now (f .args .store)) (f .args .key) (f .pre) (c .before .before .if1 .left) (c .before .is-internal-key .ensures) (not-true _ (c .if2 .taken))
+
+add-result : tie.Need-add-result
+add-result c = let f = c .before .before .before .before .before in omega (arith, c .before .before .if1 .left, inside-bound (now (f .args .store)) (f .args .key) (f .pre))
+
+shared-slice-read-result : tie.Need-shared-slice-read-result
+shared-slice-read-result c = let f = c .before .before .before .before .before .before in omega (arith, c .before .before .before .if1 .left, inside-bound (now (f .args .store)) (f .args .key) (f .pre))
+
+returns-3 : tie.Need-returns-3
+returns-3 c = let f = c .before .before .before .before .before .before in mark-byte (now (f .args .store)) (f .args .key) (f .pre) (c .before .before .before .if1 .left) (c .before .before .is-internal-key .ensures) (not-false _ (c .before .if2 .left))
 
 pub is-mark-spec : {M : Type 1} → statement M
 is-mark-spec =
-    tie.close (tie.spec returns slice-aggregate-starts-with starts-with-requires returns-2)
+    tie.close
+    (tie.spec
+    returns
+    is-internal-key-requires
+    returns-2
+    add-result
+    shared-slice-read-result
+    returns-3)

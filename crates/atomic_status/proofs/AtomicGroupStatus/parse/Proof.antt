@@ -2,6 +2,7 @@
 -- Assumes nothing.
 use borrow.Author.Tests.{not-true, not-false}
 use denote.Ref.{now}
+use mathlib.Core.Path.{sym, _∙_}
 use Rattle.atomic_status.proofs.Marks.{status-entries, status-command, status-outside, status-delete, status-put}
 use borrow.Author.Needs.{needs}
 use Rattle.atomic_status.proofs.AtomicGroupStatus.parse.Statement.{statement}
@@ -32,7 +33,7 @@ enum-known-op : tie.Need-enum-known-op
 enum-known-op c = search needs
 
 put-status-requires : tie.Need-put-status-requires
-put-status-requires c κs = search needs
+put-status-requires c κs = sym (c .before .before .before .before .lies-in .ensures) ∙ not-false _ (c .before .before .before .if1 .left)
 
 returns-2 : tie.Need-returns-2
 returns-2 c = status-entries (c .before .before .before .args .item) (now (c .before .before .before .args .store)) (c .enum-told .given .1)
