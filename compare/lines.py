@@ -21,12 +21,16 @@ def item_words(item):
     return out
 
 
+def counts(t):
+    return [t.item_count, t.entry_count, t.total, t.next, *t.body, *t.block]
+
+
 def table_line(start, name, read):
     try:
         t = read()
     except Refused as why:
-        return line("refused", name, why.number, why.item)
-    words = [start, name, t.item_count, t.entry_count, t.total, t.next, *t.body, *t.block]
+        return line("refused", name, why.number, why.item, *counts(Table()))
+    words = [start, name, *counts(t)]
     for i in shown(t.item_count):
         words += item_words(t.items[i])
     for k in shown(t.entry_count):
@@ -78,6 +82,10 @@ def do_header(name, b):
         return [line("header", name, "read", *read_header(data(b)))]
     except Refused as why:
         return [line("header", name, why.number)]
+
+
+def do_uncompressed(name, offset, length):
+    return [line("uncompressed", name, int(offset, 16), int(length, 16), 0)]
 
 
 def footed(b, signature):
@@ -317,7 +325,8 @@ def do_tail(name, *words):
 
 
 DO = {
-    "crc": do_crc, "number": do_number, "read": do_read, "big": do_big, "little": do_little, "header": do_header, "items": do_items,
-    "footed": do_footed, "plain": do_plain, "go": do_go, "whole": do_whole, "view": do_view, "status": do_status, "encode": do_encode,
-    "alone": do_alone, "memtable": do_memtable, "open": do_open, "tail": do_tail,
+    "crc": do_crc, "number": do_number, "read": do_read, "big": do_big, "little": do_little, "header": do_header,
+    "uncompressed": do_uncompressed, "items": do_items, "footed": do_footed, "plain": do_plain, "go": do_go, "whole": do_whole,
+    "view": do_view, "status": do_status, "encode": do_encode, "alone": do_alone, "memtable": do_memtable, "open": do_open,
+    "tail": do_tail,
 }

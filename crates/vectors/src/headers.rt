@@ -1,4 +1,4 @@
-// Headers: the frame that one states, or its refusal.
+// Headers: the frame that one states, or its refusal; and a frame made of its numbers.
 use crate::input;
 use crate::text;
 use log_batch::HeaderRead;
@@ -12,15 +12,26 @@ pub(crate) fn case(line: &[u8]) {
     text::end();
 }
 
+pub(crate) fn made(line: &[u8]) {
+    input::start(line);
+    frame(LogBatch::new(
+        input::number(line, 2) as usize,
+        input::number(line, 3) as usize,
+    ));
+    text::end();
+}
+
 fn answer(got: HeaderRead) {
     match got {
-        HeaderRead::Done { batch } => frame(batch),
+        HeaderRead::Done { batch } => {
+            text::word(b"read");
+            frame(batch);
+        }
         HeaderRead::Refused(number) => text::number(number as u64),
     }
 }
 
 fn frame(batch: LogBatch) {
-    text::word(b"read");
     text::number(batch.offset as u64);
     text::number(batch.len as u64);
     text::number(batch.compression as u64);

@@ -1,5 +1,5 @@
-// The line of a table: its counts, the entry total, the place after the last item, the spans of body and block, items and entries; or the
-// refusal.
+// The line of a table: its counts, the entry total, the place after the last item, the spans of body and block, items and entries. A
+// refused one has its refusal first, and no rows.
 use crate::text;
 use item_batch::LogItemBatch;
 use log_item::Command;
@@ -22,6 +22,7 @@ pub(crate) fn line(start: &[u8], name: &[u8], table: LogItemBatch) {
         text::start(b"refused");
         text::word(name);
         text::refusal(why);
+        counts(table);
     }
     text::end();
 }
