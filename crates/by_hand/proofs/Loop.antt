@@ -1,9 +1,10 @@
 -- A loop by hand whose counter goes up by one to k: `Sound/Loop.antt`'s `loop-rule` at the number of turns that are left.
 --     holds, fails     what a test computes to, from the fact that it tests
+--     step-fits        a counter below k can go up by one, where k fits 64 bits
 --     counted          Γ i is the context, and F i what is known, where the counter is i. A turn at i < k leaves the loop or goes to Γ (suc i), and the turn at k leaves it
 -- Assumes `Given`.
 use mathlib.Core.Path.{_≡_, refl, sym, _∙_, subst}
-use Prim.Native.Nat.{ℕ, zero, suc, _+_, _<_}
+use Prim.Native.Nat.{ℕ, zero, suc, _+_, _<_, _^_}
 use native.Mathlib.Nat.{add-zero, lt-suc-self}
 use native.Mathlib.Omega.{arith}
 use mathlib.Core.Bool.{Bool, true, false}
@@ -25,6 +26,9 @@ holds false a = absurd a
 pub fails : (t : Bool) → (T t → ⊥) → t ≡ false
 fails true f = absurd (f tt)
 fails false _ = refl
+
+pub step-fits : (i k : ℕ) → i < k → k < 2 ^ 64 → i + 1 < 2 ^ 64
+step-fits i k l g = omega arith
 
 module _ {M : Type 1} (𝓤 : URA M) (H : Heap 𝓤) (A : Atoms 𝓤) (W : Given 𝓤 H A) (𝓣 : Tables 𝓤 H) (En : Env 𝓤 H) (turn : Body) (Left : Out → SProp 𝓤) (k : ℕ) (F : ℕ → Type 0) (Γ : ℕ → List (Item 𝓤)) where
   -- what is had where t turns are left

@@ -1,7 +1,8 @@
 -- The loop that copies words.
 -- Assumes nothing.
 use mathlib.Core.Path.{_≡_, sym, ap, _∙_}
-use Prim.Native.Nat.{ℕ, suc, _+_, _<_, _≤_}
+use Prim.Native.Nat.{ℕ, _+_, _<_, _≤_}
+use native.Mathlib.Numerals.{add-one}
 use native.Mathlib.Omega.{arith}
 use mathlib.Core.List.{List}
 use lib.ListN.{length, getD, set, drop, length-drop}
@@ -32,11 +33,8 @@ module _ {before incoming : List ℕ} {at from len i : ℕ} {words : List ℕ} (
             ap (λ (v : List ℕ). set v (at + i) (getD incoming (from + i) 0)) (w .copied)
             ∙ ap (λ (x : ℕ). set (paste before at (drop from incoming) i) (at + i) x) (sym (getD-drop from incoming i 0))
             ∙ paste-suc before at (drop from incoming) i 0 (omega (arith, room .0)) (omega (arith, room .1, length-drop from incoming))
-            ∙ ap (λ (k : ℕ). paste before at (drop from incoming) k) one;
+            ∙ ap (λ (k : ℕ). paste before at (drop from incoming) k) (sym (add-one i));
       }
-    where
-      one : suc i ≡ i + 1
-      one = omega arith
 
   pub copied-all : len ≤ i → words ≡ paste before at (drop from incoming) len
   copied-all l = w .copied ∙ ap (λ (k : ℕ). paste before at (drop from incoming) k) same

@@ -3,7 +3,7 @@
 use mathlib.Core.Path.{_≡_, refl, sym, ap, _∙_}
 use Prim.Native.Nat.{ℕ, _+_, _-_, _<_, _≤_}
 use native.Mathlib.Omega.{arith}
-use mathlib.Core.Bool.{Bool, true, false, _&&_}
+use mathlib.Core.Bool.{Bool, true, false, _&&_, and-eq-true-iff}
 use mathlib.Core.List.{List}
 use lib.ListN.{length, take, drop}
 use borrow.Author.Tests.{le-leb, lt-leb}
@@ -14,7 +14,6 @@ use Rattle.memtable.specs.Rows.{runOf}
 use Rattle.memtable.specs.Table.{wellFormed}
 use Rattle.location_rules.specs.Decisions.{noRun, fetched}
 use Rattle.memtable.specs.Fetching.{fetchOf}
-use Rattle.memtable.proofs.Queues.{both}
 use Rattle.memtable.proofs.Surveys.{fetched-by}
 use Rattle.memtable.proofs.Fetches.{fetched-is}
 use Rattle.location_rows.specs.Words.{areRows, locationCount, rowsOf, located}
@@ -37,7 +36,7 @@ module _ (words : List ℕ) (t : Table) (gate : ℕ) {b : Bool} (e : b ≡ forme
   module _ (f : b ≡ true) where
     parts : (areRows (locationCount words) words ≡ true) × (wellFormed (located words) t ≡ true)
     unfolding formedWords
-    parts = both (areRows (locationCount words) words) (wellFormed (located words) t) (sym e ∙ f)
+    parts = and-eq-true-iff (areRows (locationCount words) words) (wellFormed (located words) t) .0 (sym e ∙ f)
 
     is-limited : fetchWords words t gate ≡ limitedFetch (locationCount words) (fetchOf (located words) t gate)
     unfolding fetchWords rowsOf

@@ -2,6 +2,7 @@
 -- Assumes nothing.
 use mathlib.Core.Path.{_≡_, refl, sym, ap, _∙_}
 use Prim.Native.Nat.{ℕ, _+_, _-_, _*_, _≤_}
+use native.Mathlib.Nat.{div-mul-le-self}
 use native.Mathlib.Omega.{arith}
 use mathlib.Core.Bool.{Bool, true, false, cond}
 use mathlib.Core.List.{List, _++_}
@@ -25,7 +26,7 @@ use Rattle.memtable.proofs.Theorems.{refused-kept}
 use Rattle.location_rows.specs.Words.{areRows, locationCount, rows, broken, rowsOf, rowsWords, located}
 use Rattle.location_rows.specs.Answers.{limited, RowsRewritten}
 use Rattle.location_rows.specs.Private.{formedWords, readyWords}
-use Rattle.location_rows.proofs.Rows.{room, pasted}
+use Rattle.location_rows.proofs.Rows.{pasted}
 use Rattle.location_rows.proofs.Surveys.{located-length, unformed, unready}
 use Rattle.location_rows.proofs.Limits.{limited-le, limited-in, limited-out, limited-refused}
 
@@ -78,7 +79,7 @@ module _ (words : List ℕ) (t : Table) (incoming : List ℕ) (first : ℕ) {p :
     pub replace-room : (p .start * 6 + a .replaced * 6 ≤ length words) × (p .from * 6 + a .replaced * 6 ≤ length incoming)
     replace-room =
         let k : a .replaced ≤ d .replaced = rw reply (limited-le (locationCount words) (locationCount incoming) t d) in
-        (omega (arith, k, fits .0, room (length words)), omega (arith, k, fits .1, room (length incoming)))
+        (omega (arith, k, fits .0, div-mul-le-self (length words) 6), omega (arith, k, fits .1, div-mul-le-self (length incoming) 6))
 
     module _ {later : List ℕ} (formed : good ≡ formedWords words t) (taken : isReady ≡ readyWords incoming first) (stops : s ≡ stopOf gate)
         (copied : later ≡ paste words (p .start * 6) (drop (p .from * 6) incoming) (a .replaced * 6)) where
@@ -139,7 +140,7 @@ module _ (words : List ℕ) (t : Table) (incoming : List ℕ) (first : ℕ) {p :
               told : (b : Bool) → inReach (locationCount words) (locationCount incoming) ≡ b → later ≡ cond b (rowsWords (rowsAfter (located words) t (located incoming) first gate) ++ drop (locationCount words * 6) words) words
               told true j =
                   copied ∙ ap (λ (r : Rewritten). paste words (p .start * 6) (drop (p .from * 6) incoming) (r .replaced * 6)) (reply ∙ limited-in (locationCount words) (locationCount incoming) t d j)
-                  ∙ pasted (locationCount words) (locationCount incoming) words incoming (p .start) (p .from) (d .replaced) (room (length words)) (room (length incoming)) h i (fits .0) (fits .1)
+                  ∙ pasted (locationCount words) (locationCount incoming) words incoming (p .start) (p .from) (d .replaced) (div-mul-le-self (length words) 6) (div-mul-le-self (length incoming) 6) h i (fits .0) (fits .1)
                   ∙ ap (λ (v : List Location). rowsWords v ++ drop (locationCount words * 6) words) (rewrites .1)
               told false j =
                   as-before (ap (λ (r : Rewritten). r .replaced) reply ∙ limited-out (locationCount words) (locationCount incoming) t d j none)

@@ -1,21 +1,16 @@
 -- Rows of words and their locations: the parts of one are the parts of the other, and the words come back.
 -- Assumes nothing.
 use mathlib.Core.Path.{_≡_, refl, sym, ap, _∙_}
-use Prim.Native.Nat.{ℕ, zero, suc, _+_, _-_, _*_, _/_, _<_, _≤_}
-use native.Mathlib.Nat.{le-of-suc-le-suc, not-suc-le-zero}
+use Prim.Native.Nat.{ℕ, zero, suc, _+_, _-_, _*_, _<_, _≤_}
+use native.Mathlib.Nat.{le-of-suc-le-suc, not-suc-le-zero, sub-zero, suc-sub-suc}
 use native.Mathlib.Omega.{arith}
-use mathlib.Core.Bool.{true}
+use mathlib.Core.Bool.{true, and-eq-true-iff}
 use mathlib.Core.List.{List, [], _∷_, _++_, append-assoc}
 use lib.ListN.{length, getD, take, drop, length-drop, take-append-drop}
 use lib.Seq.{drop-drop, take-add, paste}
 use borrow.Author.Tests.{leb-true}
 use Rattle.pipe_log.specs.declared.Location.{Location}
-use Rattle.memtable.proofs.Queues.{both}
 use Rattle.location_rows.specs.Words.{queueOf, startsWell, locationOf, areRows, locations, queueWord, rowWords, rowsWords}
-
--- the rows that the words make up are all there
-pub room : (n : ℕ) → n / 6 * 6 ≤ n
-room n = omega arith
 
 pub locations-length : (n : ℕ) (words : List ℕ) → length (locations n words) ≡ n
 locations-length zero words = refl
@@ -28,13 +23,6 @@ past k words = drop-drop (k * 6) 6 words ∙ ap (λ (m : ℕ). drop m words) sum
     sum : 6 + k * 6 ≡ suc k * 6
     sum = omega arith
 
--- none taken off, and one more taken off one more
-pub less-none : (n : ℕ) → n ≡ n - 0
-less-none n = omega arith
-
-less-one : (n k : ℕ) → n - k ≡ suc n - suc k
-less-one n k = omega arith
-
 pub location-at : (n i : ℕ) (words : List ℕ) (other : Location) → i < n → getD (locations n words) i other ≡ locationOf (drop (i * 6) words)
 location-at zero i words other l = absurd (not-suc-le-zero l)
 location-at (suc n) zero words other l = refl
@@ -46,24 +34,24 @@ locations-take (suc k) zero words l = absurd (not-suc-le-zero l)
 locations-take (suc k) (suc n) words l = ap (λ (rows : List Location). locationOf words ∷ rows) (locations-take k n (drop 6 words) (le-of-suc-le-suc l))
 
 locations-drop : (k n : ℕ) (words : List ℕ) → k ≤ n → drop k (locations n words) ≡ locations (n - k) (drop (k * 6) words)
-locations-drop zero n words l = ap (λ (m : ℕ). locations m words) (less-none n)
+locations-drop zero n words l = ap (λ (m : ℕ). locations m words) (sym (sub-zero n))
 locations-drop (suc k) zero words l = absurd (not-suc-le-zero l)
 locations-drop (suc k) (suc n) words l =
-    locations-drop k n (drop 6 words) (le-of-suc-le-suc l) ∙ ap (λ (v : List ℕ). locations (n - k) v) (past k words) ∙ ap (λ (m : ℕ). locations m (drop (suc k * 6) words)) (less-one n k)
+    locations-drop k n (drop 6 words) (le-of-suc-le-suc l) ∙ ap (λ (v : List ℕ). locations (n - k) v) (past k words) ∙ ap (λ (m : ℕ). locations m (drop (suc k * 6) words)) (sym (suc-sub-suc n k))
 
 rows-take : (k n : ℕ) (words : List ℕ) → k ≤ n → areRows n words ≡ true → areRows k words ≡ true
 rows-take zero n words l e = refl
 rows-take (suc k) zero words l e = absurd (not-suc-le-zero l)
 rows-take (suc k) (suc n) words l e =
-    let h = both (startsWell words) (areRows n (drop 6 words)) e in
+    let h = and-eq-true-iff (startsWell words) (areRows n (drop 6 words)) .0 e in
     rw (h .0) (rows-take k n (drop 6 words) (le-of-suc-le-suc l) (h .1))
 
 rows-drop : (k n : ℕ) (words : List ℕ) → k ≤ n → areRows n words ≡ true → areRows (n - k) (drop (k * 6) words) ≡ true
-rows-drop zero n words l e = ap (λ (m : ℕ). areRows m words) (sym (less-none n)) ∙ e
+rows-drop zero n words l e = ap (λ (m : ℕ). areRows m words) (sub-zero n) ∙ e
 rows-drop (suc k) zero words l e = absurd (not-suc-le-zero l)
 rows-drop (suc k) (suc n) words l e =
-    ap (λ (m : ℕ). areRows m (drop (suc k * 6) words)) (sym (less-one n k)) ∙ ap (λ (v : List ℕ). areRows (n - k) v) (sym (past k words))
-    ∙ rows-drop k n (drop 6 words) (le-of-suc-le-suc l) (both (startsWell words) (areRows n (drop 6 words)) e .1)
+    ap (λ (m : ℕ). areRows m (drop (suc k * 6) words)) (suc-sub-suc n k) ∙ ap (λ (v : List ℕ). areRows (n - k) v) (sym (past k words))
+    ∙ rows-drop k n (drop 6 words) (le-of-suc-le-suc l) (and-eq-true-iff (startsWell words) (areRows n (drop 6 words)) .0 e .1)
 
 -- ---- the words come back
 
@@ -90,7 +78,7 @@ row-back words l e =
 pub rows-back : (n : ℕ) (words : List ℕ) → n * 6 ≤ length words → areRows n words ≡ true → rowsWords (locations n words) ≡ take (n * 6) words
 rows-back zero words l e = refl
 rows-back (suc n) words l e =
-    let h = both (startsWell words) (areRows n (drop 6 words)) e in
+    let h = and-eq-true-iff (startsWell words) (areRows n (drop 6 words)) .0 e in
     let first : rowWords (locationOf words) ≡ take 6 words = row-back words (omega arith) (h .0) in
     let more : rowsWords (locations n (drop 6 words)) ≡ take (n * 6) (drop 6 words) = rows-back n (drop 6 words) (omega (arith, length-drop 6 words)) (h .1) in
     let sum : suc n * 6 ≡ 6 + n * 6 = omega arith in

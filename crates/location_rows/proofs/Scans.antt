@@ -2,7 +2,8 @@
 -- Assumes nothing.
 use mathlib.Core.Path.{_≡_, refl, sym, ap, _∙_}
 use Prim.Native.Nat.{ℕ, zero, suc, _+_, _-_, _*_, _<_, _≤_}
-use native.Mathlib.Nat.{add-zero}
+use native.Mathlib.Nat.{add-zero, sub-zero}
+use native.Mathlib.Numerals.{add-one}
 use native.Mathlib.Omega.{arith}
 use mathlib.Core.Bool.{Bool, true, false, _&&_}
 use mathlib.Core.List.{List}
@@ -18,7 +19,7 @@ use Rattle.memtable.specs.Rows.{runOf}
 use Rattle.memtable.proofs.Runs.{noRow, run-none, stopped, goes-on}
 use Rattle.location_rows.specs.Words.{queueOf, locationOf, areRows, locationCount, located}
 use Rattle.location_rows.specs.Private.{rowStart}
-use Rattle.location_rows.proofs.Rows.{less-none, locations-length, location-at}
+use Rattle.location_rows.proofs.Rows.{locations-length, location-at}
 
 -- ---- one row
 
@@ -48,7 +49,7 @@ pub record Checked (words : List ℕ) (n i : ℕ) : Type 0 where
   pub left : areRows n words ≡ areRows (n - i) (drop (i * 6) words)
 
 pub checked-none : (words : List ℕ) (n : ℕ) → Checked words n 0
-checked-none words n = record { within = omega arith; left = ap (λ (m : ℕ). areRows m words) (less-none n) }
+checked-none words n = record { within = omega arith; left = ap (λ (m : ℕ). areRows m words) (sym (sub-zero n)) }
 
 module _ {words : List ℕ} {n i : ℕ} (w : Checked words n i) where
   pub checked-all : n ≤ i → true ≡ areRows n words
@@ -110,8 +111,5 @@ module _ {words : List ℕ} {stop : Stop} {lo hi i : ℕ} (w : Scanned words sto
     scanned-next f =
         record {
           within = omega arith;
-          run = goes-on stop (located words) hi _ i l in-rows (w .run) (row ∙ f) ∙ (rw one refl);
+          run = goes-on stop (located words) hi _ i l in-rows (w .run) (row ∙ f) ∙ (rw (← add-one i) refl);
         }
-      where
-        one : suc i ≡ i + 1
-        one = omega arith

@@ -3,7 +3,7 @@
 use mathlib.Core.Path.{_≡_, refl, sym, _∙_}
 use Prim.Native.Nat.{ℕ, _+_, _-_, _<_, _≤_}
 use native.Mathlib.Omega.{arith}
-use mathlib.Core.Bool.{Bool, true, false}
+use mathlib.Core.Bool.{Bool, true, false, and-eq-true-iff}
 use mathlib.Core.List.{List}
 use lib.ListN.{length, take, drop}
 use borrow.Author.Tests.{lt-leb}
@@ -12,7 +12,6 @@ use Rattle.location_rules.specs.declared.Stop.{Stop}
 use Rattle.memtable.specs.Rows.{runOf}
 use Rattle.memtable.specs.Table.{wellFormed}
 use Rattle.location_rules.specs.Parts.{wellFormedBy, readyBy}
-use Rattle.memtable.proofs.Queues.{both}
 use Rattle.memtable.proofs.Surveys.{formed-count, formed-by, ready-by}
 use Rattle.location_rows.specs.Words.{areRows, locationCount, located}
 use Rattle.location_rows.specs.Private.{formedWords, readyWords}
@@ -55,4 +54,4 @@ module _ (words : List ℕ) {b : Bool} (e : b ≡ areRows (locationCount words) 
 pub count-within : (words : List ℕ) (t : Table) {b : Bool} → b ≡ formedWords words t → b ≡ true → t .count ≤ locationCount words
 unfolding formedWords
 count-within words t e f =
-    omega (arith, formed-count (located words) t (both (areRows (locationCount words) words) (wellFormed (located words) t) (sym e ∙ f) .1), located-length words)
+    omega (arith, formed-count (located words) t (and-eq-true-iff (areRows (locationCount words) words) (wellFormed (located words) t) .0 (sym e ∙ f) .1), located-length words)

@@ -2,6 +2,7 @@
 -- Assumes nothing.
 use mathlib.Core.Path.{_≡_, refl, ap, _∙_}
 use Prim.Native.Nat.{ℕ, _*_}
+use native.Mathlib.Nat.{div-mul-le-self}
 use native.Mathlib.Omega.{arith}
 use mathlib.Core.Bool.{Bool, true, false, cond}
 use mathlib.Core.List.{List, _++_}
@@ -20,7 +21,7 @@ use Rattle.memtable.proofs.Theorems.{refused-kept}
 use Rattle.location_rows.specs.Words.{startsWell, locationOf, areRows, locationCount, Rows, rows, broken, rowsOf, queueOf, queueWord, rowWords, rowsWords, located}
 use Rattle.location_rules.specs.Parts.{inReach}
 use Rattle.location_rows.specs.Answers.{limited, rewriteRows, rowsAfterwards, Kept}
-use Rattle.location_rows.proofs.Rows.{room, rows-back}
+use Rattle.location_rows.proofs.Rows.{rows-back}
 use Rattle.location_rows.proofs.Surveys.{located-length}
 use Rattle.location_rows.proofs.Limits.{limited-in, limited-21, limited-same}
 
@@ -41,7 +42,7 @@ row-again x = (
 -- The words of the rows, and then what does not make up a row, are the words.
 pub words-again : (words : List ℕ) → areRows (locationCount words) words ≡ true → rowsWords (located words) ++ drop (locationCount words * 6) words ≡ words
 words-again words h =
-    ap (λ (v : List ℕ). v ++ drop (locationCount words * 6) words) (rows-back (locationCount words) words (room (length words)) h) ∙ take-append-drop (locationCount words * 6) words
+    ap (λ (v : List ℕ). v ++ drop (locationCount words * 6) words) (rows-back (locationCount words) words (div-mul-le-self (length words) 6) h) ∙ take-append-drop (locationCount words * 6) words
 
 located-rows : (words : List ℕ) (xs : List Location) → rowsOf words ≡ rows xs → rowsWords xs ++ drop (length xs * 6) words ≡ words
 unfolding rowsOf

@@ -3,7 +3,7 @@
 use mathlib.Core.Path.{_≡_, refl, sym, ap, subst, _∙_}
 use Prim.Native.Nat.{ℕ, suc, _*_, _<_, _≤_, _^_}
 use native.Mathlib.Omega.{arith}
-use mathlib.Core.Bool.{Bool, true, false, cond, _&&_}
+use mathlib.Core.Bool.{Bool, true, false, cond, and-eq-true-iff, and-comm}
 use mathlib.Core.List.{List, [], _∷_, _++_}
 use lib.Dec.{leb}
 use lib.ListN.{length, take, drop}
@@ -67,11 +67,6 @@ pub fetched-whole : (len : ℕ) (r : Fetched) → len ≤ 64 → r ≡ fetchedOf
 unfolding fetchedOf
 fetched-whole len r l = rw (le-leb len 64 l) refl
 
--- a conjunction's first part
-first-of : (a b : Bool) → (a && b) ≡ true → a ≡ true
-first-of true b e = refl
-first-of false b e = e
-
 -- no more rows are lent than an array has
 chosen : (b : Bool) (len n : ℕ) → (b ≡ true → len ≤ 64) → n ≡ cond b len 0 → n ≤ 64
 chosen true len n l e = omega (arith, l refl)
@@ -79,7 +74,7 @@ chosen false len n l e = omega arith
 
 pub used-le : (len count n : ℕ) → n ≡ rowsUsed len count → n ≤ 64
 unfolding rowsUsed
-used-le len count n e = chosen (inReach len count) len n (λ z. leb-true len 64 (first-of (leb len 64) (leb count 64) z)) e
+used-le len count n e = chosen (inReach len count) len n (λ z. leb-true len 64 (and-eq-true-iff (leb len 64) (leb count 64) .0 z .0)) e
 
 module _ (xs : List Location) (n : ℕ) (l : n ≤ 64) (long : length xs ≡ 64) where
   pub part-long : length (take n xs) ≡ n
@@ -97,17 +92,11 @@ module _ (xs : List Location) (n : ℕ) (l : n ≤ 64) (long : length xs ≡ 64)
 pub whole-long : (xs : List Location) (n : ℕ) (zs : List Location) → length zs ≡ length (take n xs) → length xs ≡ 64 → length (zs ++ drop n xs) ≡ 64
 whole-long xs n zs e l = length-front xs zs n e ∙ l
 
--- the test is the same with the two counts exchanged
-swapped : (a b : Bool) → (a && b) ≡ (b && a)
-swapped true true = refl
-swapped true false = refl
-swapped false true = refl
-swapped false false = refl
-
 module _ (xs : List Location) (len : ℕ) (t : Table) (ys : List Location) (count first : ℕ) (gate : Gate) (n m : ℕ) where
+  -- the test is the same with the two counts exchanged
   used-in : (b : Bool) → inReach len count ≡ b → n ≡ rowsUsed len count → m ≡ rowsUsed count len → (n ≡ cond b len 0) × (m ≡ cond b count 0)
   unfolding rowsUsed
-  used-in b z e₁ e₂ = (e₁ ∙ ap (λ (x : Bool). cond x len 0) z, e₂ ∙ ap (λ (x : Bool). cond x count 0) (swapped (leb count 64) (leb len 64) ∙ z))
+  used-in b z e₁ e₂ = (e₁ ∙ ap (λ (x : Bool). cond x len 0) z, e₂ ∙ ap (λ (x : Bool). cond x count 0) (and-comm (leb count 64) (leb len 64) ∙ z))
 
   nothing-left : (zs : List Location) → length zs ≡ 0 → zs ++ xs ≡ xs
   nothing-left [] e = refl

@@ -2,6 +2,7 @@
 -- Assumes nothing.
 use mathlib.Core.Path.{_≡_, refl, sym, ap, _∙_}
 use Prim.Native.Nat.{ℕ, _+_, _-_, _≤_, min}
+use native.Mathlib.Nat.{le-add-right, add-sub-cancel-left, sub-eq-zero-of-le}
 use native.Mathlib.Omega.{arith}
 use mathlib.Core.Bool.{Bool, true, false}
 use mathlib.Core.List.{List}
@@ -50,16 +51,10 @@ module _ (rows : List Location) (t : Table) (gate : ℕ) (incoming : List Locati
   at = t .first + t .count
 
   at-count : startPlace t at ≡ t .count
-  at-count = past (t .first) (t .count)
-    where
-      past : (a b : ℕ) → a + b - a ≡ b
-      past a b = omega arith
+  at-count = add-sub-cancel-left (t .first) (t .count)
 
   from-0 : startFrom t at ≡ 0
-  from-0 = past (t .first) (t .count)
-    where
-      past : (a b : ℕ) → a - (a + b) ≡ 0
-      past a b = omega arith
+  from-0 = sub-eq-zero-of-le (le-add-right (t .first) (t .count))
 
   fits : t .count + long ≤ length rows
   fits = omega (arith, run-le (Stop.Above gate) (drop (t .count) rows), length-drop (t .count) rows, formed-count rows t formed)

@@ -1,7 +1,7 @@
 -- Numbers that the walks use: a Location takes 40 bytes.
 -- Assumes nothing.
 use mathlib.Core.Path.{_≡_}
-use Prim.Native.Nat.{ℕ, suc, _+_, _-_, _*_, _<_, _≤_, _^_, min}
+use Prim.Native.Nat.{ℕ, _+_, _*_, _<_, _≤_, _^_, min}
 use native.Mathlib.Omega.{arith}
 
 -- where element i lies fits a usize, since the whole slice takes less than 2 ^ 63 bytes
@@ -13,18 +13,6 @@ within a k n i le l = omega arith
 
 pub below : (a n : ℕ) → a < n → n < 2 ^ 64 → a < 2 ^ 64
 below a n l g = omega arith
-
-pub step-fits : (i k : ℕ) → i < k → k < 2 ^ 64 → i + 1 < 2 ^ 64
-step-fits i k l g = omega arith
-
-pub one-more : (i : ℕ) → i + 1 ≡ suc i
-one-more i = omega arith
-
-pub up-to : (i k : ℕ) → i ≤ k → i + (k - i) ≡ k
-up-to i k le = omega (arith, le)
-
-pub from-0 : (c : ℕ) → 0 ≤ c
-from-0 c = omega arith
 
 pub cut-le : (a n c : ℕ) → c ≡ min a n → c ≤ n
 cut-le a n c e = omega (arith, e)

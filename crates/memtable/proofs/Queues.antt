@@ -4,7 +4,7 @@ use mathlib.Core.Path.{_≡_, refl, sym, ap, _∙_}
 use Prim.Native.Nat.{ℕ, suc, _+_}
 use native.Mathlib.Nat.{zero-add}
 use native.Mathlib.Omega.{arith}
-use mathlib.Core.Bool.{Bool, true, false, cond, _&&_, true≢false}
+use mathlib.Core.Bool.{Bool, true, false, cond, and-eq-true-iff}
 use mathlib.Core.List.{List, [], _∷_, _++_}
 use lib.ListN.{length, take, drop, take-append-drop}
 use Rattle.pipe_log.specs.declared.Location.{Location}
@@ -13,26 +13,18 @@ use Rattle.location_rules.specs.Row.{isAppend, isRewrite, inAppend, inRewrite}
 use Rattle.memtable.specs.Rows.{rowsIn}
 use Rattle.memtable.specs.Table.{all}
 
--- a conjunction, taken apart and put together
-pub both : (a b : Bool) → (a && b) ≡ true → (a ≡ true) × (b ≡ true)
-both true b e = (refl, e)
-both false b e = absurd (true≢false (sym e))
-
-pub together : (a b : Bool) → a ≡ true → b ≡ true → (a && b) ≡ true
-together a b e f = rw (e, f) refl
-
 module _ (test : Location → Bool) where
   pub all-join : (a b : List Location) → all test a ≡ true → all test b ≡ true → all test (a ++ b) ≡ true
   all-join [] b e f = f
-  all-join (r ∷ a) b e f = let z : (test r ≡ true) × (all test a ≡ true) = both (test r) (all test a) e in together (test r) (all test (a ++ b)) (z .0) (all-join a b (z .1) f)
+  all-join (r ∷ a) b e f = let z : (test r ≡ true) × (all test a ≡ true) = and-eq-true-iff (test r) (all test a) .0 e in and-eq-true-iff (test r) (all test (a ++ b)) .1 (z .0, all-join a b (z .1) f)
 
   pub all-left : (a b : List Location) → all test (a ++ b) ≡ true → all test a ≡ true
   all-left [] b e = refl
-  all-left (r ∷ a) b e = let z : (test r ≡ true) × (all test (a ++ b) ≡ true) = both (test r) (all test (a ++ b)) e in together (test r) (all test a) (z .0) (all-left a b (z .1))
+  all-left (r ∷ a) b e = let z : (test r ≡ true) × (all test (a ++ b) ≡ true) = and-eq-true-iff (test r) (all test (a ++ b)) .0 e in and-eq-true-iff (test r) (all test a) .1 (z .0, all-left a b (z .1))
 
   pub all-right : (a b : List Location) → all test (a ++ b) ≡ true → all test b ≡ true
   all-right [] b e = e
-  all-right (r ∷ a) b e = all-right a b (both (test r) (all test (a ++ b)) e .1)
+  all-right (r ∷ a) b e = all-right a b (and-eq-true-iff (test r) (all test (a ++ b)) .0 e .1)
 
   pub all-take : (k : ℕ) (rows : List Location) → all test rows ≡ true → all test (take k rows) ≡ true
   all-take k rows e = all-left (take k rows) (drop k rows) (ap (all test) (take-append-drop k rows) ∙ e)
@@ -51,7 +43,7 @@ module _ (test : Location → Bool) where
 
   pub rowsIn-all : (rows : List Location) → all test rows ≡ true → rowsIn test rows ≡ length rows
   rowsIn-all [] e = refl
-  rowsIn-all (r ∷ rs) e = let z : (test r ≡ true) × (all test rs ≡ true) = both (test r) (all test rs) e in (rw (z .0) (ap suc (rowsIn-all rs (z .1))))
+  rowsIn-all (r ∷ rs) e = let z : (test r ≡ true) × (all test rs ≡ true) = and-eq-true-iff (test r) (all test rs) .0 e in (rw (z .0) (ap suc (rowsIn-all rs (z .1))))
 
 -- a row is in one queue alone
 not-rewrite : (q : LogQueue) → isAppend q ≡ true → isRewrite q ≡ false
@@ -64,8 +56,8 @@ not-append LogQueue.Rewrite e = refl
 
 pub none-rewrite : (rows : List Location) → all inAppend rows ≡ true → rowsIn inRewrite rows ≡ 0
 none-rewrite [] e = refl
-none-rewrite (r ∷ rs) e = let z : (inAppend r ≡ true) × (all inAppend rs ≡ true) = both (inAppend r) (all inAppend rs) e in (rw (not-rewrite (r .queue) (z .0)) (none-rewrite rs (z .1)))
+none-rewrite (r ∷ rs) e = let z : (inAppend r ≡ true) × (all inAppend rs ≡ true) = and-eq-true-iff (inAppend r) (all inAppend rs) .0 e in (rw (not-rewrite (r .queue) (z .0)) (none-rewrite rs (z .1)))
 
 pub none-append : (rows : List Location) → all inRewrite rows ≡ true → rowsIn inAppend rows ≡ 0
 none-append [] e = refl
-none-append (r ∷ rs) e = let z : (inRewrite r ≡ true) × (all inRewrite rs ≡ true) = both (inRewrite r) (all inRewrite rs) e in (rw (not-append (r .queue) (z .0)) (none-append rs (z .1)))
+none-append (r ∷ rs) e = let z : (inRewrite r ≡ true) × (all inRewrite rs ≡ true) = and-eq-true-iff (inRewrite r) (all inRewrite rs) .0 e in (rw (not-append (r .queue) (z .0)) (none-append rs (z .1)))

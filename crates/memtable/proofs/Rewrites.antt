@@ -2,7 +2,7 @@
 -- Assumes nothing.
 use mathlib.Core.Path.{_≡_, refl, sym, ap, _∙_}
 use Prim.Native.Nat.{ℕ, _+_, _-_, _≤_}
-use native.Mathlib.Nat.{le-refl}
+use native.Mathlib.Nat.{le-refl, add-sub-cancel-left}
 use native.Mathlib.Omega.{arith}
 use mathlib.Core.Bool.{Bool, true, false, not, cond}
 use mathlib.Core.List.{List}
@@ -37,9 +37,6 @@ replaced-le good isReady t place overlap run gate =
   where
     none : 0 ≤ run
     none = omega arith
-
-past : (a k : ℕ) → a + k - a ≡ k
-past a k = omega arith
 
 -- where nothing overlaps, the place and the run count for nothing
 none-answered : (c z : Bool) (t : Table) (a b k l o o′ : ℕ) (gate : Gate) → o ≡ 0 → o′ ≡ 0 → answered c z t a o k gate ≡ answered c z t b o′ l gate
@@ -115,10 +112,10 @@ module _ (xs : List Location) (t : Table) (ys : List Location) (first : ℕ) whe
       at-from = ap (λ (w : Overlap). w .from) lies
 
       so-long : p .end - p .start ≡ len
-      so-long = ap (λ (w : Overlap). w .end - w .start) lies ∙ past place len
+      so-long = ap (λ (w : Overlap). w .end - w .start) lies ∙ add-sub-cancel-left place len
 
       ran : e - p .start ≡ runs
-      ran = ap (λ (w : ℕ). w - p .start) e₅ ∙ past (p .start) _ ∙ same-run
+      ran = ap (λ (w : ℕ). w - p .start) e₅ ∙ add-sub-cancel-left (p .start) _ ∙ same-run
         where
           same-run : runOf s (take (p .end - p .start) (drop (p .start) xs)) ≡ runs
           same-run = rw (e₄, so-long, at-start) refl

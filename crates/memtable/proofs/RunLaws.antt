@@ -4,7 +4,7 @@ use mathlib.Core.Path.{_≡_, refl, ap}
 use Prim.Native.Nat.{ℕ, zero, suc, _<_, _≤_}
 use native.Mathlib.Nat.{le-refl, not-suc-le-zero, le-of-suc-le-suc}
 use native.Mathlib.Omega.{arith}
-use mathlib.Core.Bool.{Bool, true, false, cond}
+use mathlib.Core.Bool.{Bool, true, false, cond, and-eq-true-iff}
 use mathlib.Core.List.{List, [], _∷_}
 use lib.ListN.{length, getD, take, drop, length-take}
 use Rattle.pipe_log.specs.declared.Location.{Location}
@@ -12,7 +12,6 @@ use Rattle.location_rules.specs.declared.Stop.{Stop}
 use Rattle.location_rules.specs.Row.{inAppend, stopsAt}
 use Rattle.memtable.specs.Rows.{runOf}
 use Rattle.memtable.specs.Table.{all}
-use Rattle.memtable.proofs.Queues.{both}
 
 -- a row more
 one-more : (b : Bool) (k n : ℕ) → k ≤ n → cond b 0 (suc k) ≤ suc n
@@ -56,7 +55,7 @@ module _ (s : Stop) where
 -- without a gate: where the rows from place j on are in the append queue, a run ends there or before
 pub run-front : (j : ℕ) (rows : List Location) → all inAppend (drop j rows) ≡ true → runOf Stop.Append rows ≤ j
 run-front j [] e = omega arith
-run-front zero (r ∷ rs) e = rw (both (inAppend r) (all inAppend rs) e .0) (le-refl 0)
+run-front zero (r ∷ rs) e = rw (and-eq-true-iff (inAppend r) (all inAppend rs) .0 e .0) (le-refl 0)
 run-front (suc j) (r ∷ rs) e = one-more (inAppend r) (runOf Stop.Append rs) j (run-front j rs e)
 
 -- A run is the longest: no row of it stops, and where it ends before the rows do, the next row does.

@@ -4,7 +4,7 @@ use mathlib.Core.Path.{_≡_, refl, sym, ap, _∙_}
 use Prim.Native.Nat.{ℕ, suc, _+_, _-_, _<_, _≤_, min}
 use native.Mathlib.Nat.{zero-add}
 use native.Mathlib.Omega.{arith}
-use mathlib.Core.Bool.{Bool, true, false, cond, _&&_}
+use mathlib.Core.Bool.{Bool, true, false, cond, _&&_, and-eq-true-iff}
 use mathlib.Core.List.{List, [], _∷_}
 use lib.Dec.{leb, leb·suc-suc, leb·suc-zero}
 use lib.ListN.{length, take, drop, length-drop}
@@ -21,12 +21,11 @@ use Rattle.location_rules.specs.declared.Fetched.{Fetched}
 use Rattle.location_rules.specs.Decisions.{fetched}
 use Rattle.memtable.specs.Fetching.{fetchOf}
 use Rattle.location_rules.specs.Parts.{wellFormedBy, readyBy}
-use Rattle.memtable.proofs.Queues.{both}
 
 -- the count of a well-formed table is within its rows
 pub formed-count : (ys : List Location) (t : Table) → wellFormed ys t ≡ true → t .count ≤ length ys
 unfolding wellFormed
-formed-count ys t e = leb-true (t .count) (length ys) (both (leb (t .count) (length ys)) _ e .0)
+formed-count ys t e = leb-true (t .count) (length ys) (and-eq-true-iff (leb (t .count) (length ys)) _ .0 e .0)
 
 -- a row more: the run reaches the end exactly where this row and the others are in the other queue
 more-rewrite : (q : LogQueue) (n k : ℕ) (b : Bool) → leb n k ≡ b → leb (suc n) (cond (isAppend q) 0 (suc k)) ≡ (isRewrite q && b)

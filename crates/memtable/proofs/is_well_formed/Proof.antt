@@ -3,7 +3,7 @@
 use mathlib.Core.Bool.{Bool}
 use mathlib.Core.List.{[], _∷_, List}
 use mathlib.Core.Path.{_≡_, refl, ap}
-use Prim.Native.Nat.{_<_, _^_, ℕ, _≤_, _-_, min, _+_}
+use Prim.Native.Nat.{_<_, _^_, ℕ, _≤_, _-_, min, _+_, zero-le}
 use native.Mathlib.Nat.{le-refl}
 use lib.Dec.{lit<}
 use lib.ListN.{length, take, drop as dropL}
@@ -48,7 +48,7 @@ use Rattle.location_rules.specs.declared.Stop.{Stop}
 use Rattle.memtable.specs.Rows.{runOf}
 use Rattle.memtable.specs.Table.{wellFormed}
 use Rattle.location_rules.specs.Parts.{wellFormedBy}
-use Rattle.memtable.proofs.Place.{from-0, cut-le}
+use Rattle.memtable.proofs.Place.{cut-le}
 use Rattle.memtable.proofs.Surveys.{formed-by}
 use Rattle.by_hand.proofs.Locals.{tyAt}
 use Rattle.memtable.proofs.Machine.{R, valT, valS, is-append, is-rewrite}
@@ -167,7 +167,7 @@ module _ {M : Type 1} (𝓤 : URA M) (H : Heap 𝓤) (A : Atoms 𝓤) (W : Given
         rewrite ! 10 (λ (w : Val). ‵ (fat fullShare (tyAt body.locals 3) l₃ 0 w)) (ap only (i₀ .0)) refl $
         -- the rows before the count
         assigns ! (agg ! (and-then ! (lit ! tt) (no-more !))) (from ! (stop !)) (init ! 2 refl (EL.lawful S.the-type S′.the-laws 𝓤 H A W tt .typed Stop.Append _ is-append .0)) $ move ! (1 ∷ []) $ use1 W (‵ Own ⊛ ‵ Own) (shr-slice-copy 𝓤 H A W (named 0) κ R .twice y (vy ∷ [])) $ split ! $ move ! (2 ∷ 0 ∷ []) $
-        use2 W (raw (Scan 𝓤 H A mem run .pre (to-scan 0 c Stop.Append (valS Stop.Append)))) (ask-scan 0 c Stop.Append (valS Stop.Append) (lit< tt) (i₀ .1) is-append (from-0 c) (cut-le (t .count) n c e₀)) $
+        use2 W (raw (Scan 𝓤 H A mem run .pre (to-scan 0 c Stop.Append (valS Stop.Append)))) (ask-scan 0 c Stop.Append (valS Stop.Append) (lit< tt) (i₀ .1) is-append zero-le (cut-le (t .count) n c e₀)) $
         calls-at ! fm (Scan 𝓤 H A mem run) known-scan (to-scan 0 c Stop.Append (valS Stop.Append)) (and-then ! (load ! (from ! (stop !)) (look ! 14 refl)) (and-then ! (lit ! tt) (and-then ! (load ! (from ! (stop !)) (look ! 10 refl)) (and-then ! (load ! (from ! (stop !)) (look ! 2 refl)) (no-more !))))) (λ u₁.
         use1 W (later (some (λ (e : ℕ). ((‵ (flft κ q) ⊛ ‵ ftrue) ⊛ ‵ (usize .own e (u₁ ∷ []))) ⊛ raw (ensured 𝓤 H A sc.ended (sc.clauses 𝓤 H A mem run) (κ, tt) (y, (0, (c, (Stop.Append, tt)))) tt e)))) (id⊢ 𝓤 _) $ await ! tt $ pick ! (λ n₁.
         split ! $ move ! (1 ∷ []) $ use1 W (raw (fact 𝓤 (n₁ ≡ 0 + runOf Stop.Append (take (c - 0) (dropL 0 ys))))) (said-scan 0 c Stop.Append (valS Stop.Append) n₁) $ heard ! (n₁ ≡ 0 + runOf Stop.Append (take (c - 0) (dropL 0 ys))) (λ e₁. split ! $ move ! (1 ∷ []) $

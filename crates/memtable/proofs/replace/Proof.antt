@@ -6,6 +6,7 @@
 use mathlib.Core.Path.{_≡_, refl, sym, _∙_, ap, subst}
 use Prim.Native.Nat.{ℕ, suc, _+_, _*_, _<_, _≤_, _^_}
 use native.Mathlib.Nat.{zero-add, le-of-lt, le-refl}
+use native.Mathlib.Numerals.{add-one}
 use native.Mathlib.Omega.{arith}
 use mathlib.Core.Bool.{Bool}
 use mathlib.Core.List.{List, [], _∷_}
@@ -51,9 +52,9 @@ use denote.Exit.{yes}
 use Rattle.pipe_log.specs.declared.Location.{Location}
 use Rattle.memtable.proofs.Runs.{noRow}
 use Rattle.memtable.proofs.Machine.{R}
-use Rattle.memtable.proofs.Place.{reach, within, below, step-fits, one-more}
+use Rattle.memtable.proofs.Place.{reach, within, below}
 use borrow.Author.Tests.{lt-ltb, le-ltb}
-use Rattle.by_hand.proofs.Loop.{counted}
+use Rattle.by_hand.proofs.Loop.{step-fits, counted}
 use Rattle.pipe_log.proofs.Location as T
 use Rattle.pipe_log.proofs.Location.Laws as T′
 use Rattle.memtable.proofs.replace.Key.{name as #f}
@@ -174,7 +175,7 @@ module _ {M : Type 1} (𝓤 : URA M) (H : Heap 𝓤) (A : Atoms 𝓤) (W : Given
         rewrite ! 0 (λ (l : List Location). ‵ (row R fullShare l b o)) (P-suc i small) refl $
         assigns-last ! (bin ! (load ! (from ! (stop !)) (look ! 2 refl)) (lit ! tt) (record { fits = step-fits i k small gk })) (from ! (stop !)) (store ! 2 refl (tt, record { fits = step-fits i k small gk })) $
         forget ! 3 refl $ forget ! 4 refl $ forget ! 5 refl $ forget ! 6 refl $ forget ! 7 refl $ forget ! 8 refl $ forget ! 9 refl $ forget ! 10 refl $
-        rewrite ! 2 (λ (j : ℕ). ‵ (fat fullShare word l₆ 0 (vint w64 j))) (one-more i) refl $ by ! (go tt)))
+        rewrite ! 2 (λ (j : ℕ). ‵ (fat fullShare word l₆ 0 (vint w64 j))) (add-one i) refl $ by ! (go tt)))
       where
         elem : Location
         elem = getD ys (first + i) noRow

@@ -4,7 +4,7 @@
 use mathlib.Core.Bool.{Bool}
 use mathlib.Core.List.{[], _∷_, List}
 use mathlib.Core.Path.{_≡_, refl, ap, sym, subst}
-use Prim.Native.Nat.{_<_, _^_, ℕ, _≤_, _-_, _+_}
+use Prim.Native.Nat.{_<_, _^_, ℕ, _≤_, _-_, _+_, zero-le}
 use native.Mathlib.Nat.{le-refl}
 use lib.Dec.{lit<}
 use lib.ListN.{length, take, drop as dropL}
@@ -62,7 +62,6 @@ use Rattle.memtable.specs.Table.{wellFormed}
 use Rattle.location_rules.specs.Decisions.{stopOf, answered}
 use Rattle.memtable.specs.Rewriting.{rewriteOf, rowsAfter}
 use Rattle.location_rules.specs.Parts.{readyBy, overlapOf}
-use Rattle.memtable.proofs.Place.{from-0}
 use Rattle.location_rules.proofs.Overlaps.{over-le, over-rows}
 use Rattle.memtable.proofs.Rewrites.{run-fits, rewritten-by}
 use Rattle.by_hand.proofs.Locals.{tyAt}
@@ -210,7 +209,7 @@ module _ {M : Type 1} (𝓤 : URA M) (H : Heap 𝓤) (A : Atoms 𝓤) (W : Given
 
   ask-last : ent 𝓤 (⋆ 𝓤 H A ((‵ (flft κ′ q₂) ⊛ ‵ ftrue) ∷ ‵ OwnY ∷ [])) (Scan 𝓤 H A mem run .pre to-last)
   ask-last =
-      qed W ((‵ (flft κ′ q₂) ⊛ ‵ ftrue) ∷ ‵ OwnY ∷ []) ∵ says ! (from-0 m, le-refl m) $ frame ! $ nothing ! $ owned ! S.the-row (Is S.the-row) (EL.makes S.the-type S′.the-plain 𝓤 H A) Stop.Append _ is-append $ fjoin ! $ owned ! usize (Is usize) (uint-makes 𝓤 H A W w64) m _ (refl, gy .0) $ fjoin ! $ owned ! usize (Is usize) (uint-makes 𝓤 H A W w64) 0 _ (refl, lit< tt) $ fjoin ! $ move ! (1 ∷ 0 ∷ []) $ fjoin ! $ done !
+      qed W ((‵ (flft κ′ q₂) ⊛ ‵ ftrue) ∷ ‵ OwnY ∷ []) ∵ says ! (zero-le, le-refl m) $ frame ! $ nothing ! $ owned ! S.the-row (Is S.the-row) (EL.makes S.the-type S′.the-plain 𝓤 H A) Stop.Append _ is-append $ fjoin ! $ owned ! usize (Is usize) (uint-makes 𝓤 H A W w64) m _ (refl, gy .0) $ fjoin ! $ owned ! usize (Is usize) (uint-makes 𝓤 H A W w64) 0 _ (refl, lit< tt) $ fjoin ! $ move ! (1 ∷ 0 ∷ []) $ fjoin ! $ done !
 
   said-last : (e : ℕ) → ent 𝓤 (ensured 𝓤 H A sc.ended (sc.clauses 𝓤 H A mem run) (κ′, tt) (y, (0, (m, (Stop.Append, tt)))) tt e) (fact 𝓤 (e ≡ 0 + runOf Stop.Append (take (m - 0) (dropL 0 ys))))
   said-last e = exE 𝓤 _ (λ ws. snd∗ 𝓤 (sem 𝓤 H A (lasts sc.ended (κ′, tt) (y, (0, (m, (Stop.Append, tt)))) ws)) (fact 𝓤 (e ≡ 0 + runOf Stop.Append (take (m - 0) (dropL 0 ys)))))
