@@ -3,7 +3,7 @@
 use Prim.Native.Nat.{ℕ, _+_, _*_, _≤_, _<_}
 use mathlib.Core.Path.{_≡_, refl, ap, _∙_}
 use mathlib.Core.Logic.{_⊎_, inl, inr}
-use mathlib.Core.Bool.{Bool, true, false, cond, _&&_}
+use mathlib.Core.Bool.{Bool, true, false, cond, _&&_, and-false}
 use mathlib.Core.List.{List, [], _++_}
 use native.Mathlib.Omega.{arith}
 use lib.Bits.{xor-zero-r}
@@ -97,11 +97,7 @@ verdict-of s checked xs ns h = go (listVerdict s checked xs ns) h
 
 something : (items content : ℕ) → (items ≡ 0 → ⊥) ⊎ (content ≡ 0 → ⊥) → (eqb items 0 && eqb content 0) ≡ false
 something items content (inl h) = rw (ne-eqb items 0 h)
-something items content (inr h) = rw (ne-eqb content 0 h) (neither (eqb items 0))
-  where
-    neither : (b : Bool) → (b && false) ≡ false
-    neither true = refl
-    neither false = refl
+something items content (inr h) = rw (ne-eqb content 0 h) (and-false (eqb items 0))
 
 module _ (m : Measured) (items : ℕ) (content : List ℕ) (room : ℕ) {r : Encoded} where
   pub nothing : items ≡ 0 → length content ≡ 0 → r ≡ encoded 0 0 0 → r ≡ batchEncoded m items content room

@@ -17,6 +17,7 @@ use Rattle.log_item.specs.declared.LogItem.{LogItem}
 use Rattle.log_item.specs.Bytes.{headBytes, tailsBytes}
 use Rattle.log_item.specs.Refusing.{contentRefusal}
 use Rattle.log_item.specs.Written.{sumOf, itemBytes}
+use Rattle.log_item.proofs.Parts.{one-more}
 use Rattle.log_item.proofs.Tails.{sum-rises}
 use Rattle.log_item.specs.Blank.{blankItem}
 use Rattle.list_measure.specs.Bytes.{itemsBytes}
@@ -27,9 +28,6 @@ next-length ns j n h = rw (add-one, drop-cons ns j 0)
 
 next-item : (xs : List LogItem) (i : ℕ) → i < length xs → drop i xs ≡ getD xs i blankItem ∷ drop (i + 1) xs
 next-item xs i h = drop-cons xs i blankItem h ∙ ap (λ (m : ℕ). getD xs i blankItem ∷ drop m xs) (sym (add-one i))
-
-one-more : (n : ℕ) → 0 < n → n ≡ suc (n - 1)
-one-more n h = omega arith
 
 -- the first of two refusals, and the second where there is no first
 unless-first : (a b k : ℕ) (v : Verdict) → unlessItem (firstOf a b) k v ≡ unlessItem a k (unlessItem b k v)
@@ -58,7 +56,7 @@ module _ (s : List ℕ) (xs : List LogItem) (ns : List ℕ) where
 
   pub bytes-row : (i j tails t : ℕ) → 0 < tails → j + tails ≤ length ns
       → restBytes i j tails t ≡ shortest (t + getD ns j 0) ++ restBytes i (j + 1) (tails - 1) (t + getD ns j 0)
-  bytes-row i j tails t h r = ap (λ (n : ℕ). restBytes i j n t) (one-more tails h) ∙ row-suc i j (tails - 1) t (omega arith)
+  bytes-row i j tails t h r = ap (λ (n : ℕ). restBytes i j n t) (sym (one-more tails h)) ∙ row-suc i j (tails - 1) t (omega arith)
 
   pub bytes-item : (i j t : ℕ) → i < length xs
       → restBytes i j 0 t ≡ headBytes s (getD xs i blankItem) ++ restBytes (i + 1) j (entriesOf (getD xs i blankItem .content) .count) t
@@ -107,7 +105,7 @@ module _ (s : List ℕ) (xs : List LogItem) (ns : List ℕ) where
     pub told-row : (i j tails t : ℕ) → 0 < tails → j + tails ≤ length ns
         → restVerdict i j tails t ≡ cond (ltb 4294967295 (t + getD ns j 0)) (refused 16 (i - 1)) (restVerdict i (j + 1) (tails - 1) (t + getD ns j 0))
     told-row i j tails t h r =
-        ap (λ (n : ℕ). restVerdict i j n t) (one-more tails h) ∙ told-suc i j (tails - 1) t (omega arith) ∙ over i (j + 1) (tails - 1) (t + getD ns j 0)
+        ap (λ (n : ℕ). restVerdict i j n t) (sym (one-more tails h)) ∙ told-suc i j (tails - 1) t (omega arith) ∙ over i (j + 1) (tails - 1) (t + getD ns j 0)
 
     -- Where no tails are left, the items are.
     told-next : (i j t : ℕ) → t ≤ 4294967295 → restVerdict i j 0 t ≡ itemsVerdict s checked (drop i xs) (drop j ns) j i t

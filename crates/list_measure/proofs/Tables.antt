@@ -2,23 +2,14 @@
 -- Assumes nothing.
 use Prim.Native.Nat.{ℕ, zero, suc, _<_, min}
 use mathlib.Core.Path.{_≡_, refl, ap, _∙_}
-use mathlib.Core.List.{List, [], _∷_, map}
+use mathlib.Core.List.{List, [], _∷_}
 use native.Mathlib.Omega.{arith}
-use lib.ListN.{length, take, getD, length-take}
+use lib.ListN.{length, take, getD, length-take, length-map, List·getD-map}
 use lib.Seq.{getD-take}
 use Rattle.log_item.specs.declared.LogItem.{LogItem}
 use Rattle.log_item.specs.declared.EntryIndex.{EntryIndex}
 use Rattle.log_item.specs.Blank.{blankItem, blankEntry}
 use Rattle.list_measure.specs.Bytes.{itemsOf, lengthsOf}
-
-map-length : {A B : Type 0} (f : A → B) (xs : List A) → length (map f xs) ≡ length xs
-map-length f [] = refl
-map-length f (x ∷ xs) = ap suc (map-length f xs)
-
-map-at : {A B : Type 0} (f : A → B) (d : A) (xs : List A) (i : ℕ) → getD (map f xs) i (f d) ≡ f (getD xs i d)
-map-at f d [] i = refl
-map-at f d (x ∷ xs) zero = refl
-map-at f d (x ∷ xs) (suc i) = map-at f d xs i
 
 pub items-length : (items : List LogItem) (n : ℕ) → length (itemsOf items n) ≡ n
 unfolding itemsOf
@@ -39,10 +30,10 @@ item-at items n i h = first-at items n i (omega (arith, items-length items n))
 
 pub lengths-length : (entries : List EntryIndex) (n : ℕ) → length entries ≡ 1024 → length (lengthsOf entries n) ≡ min n 1024
 unfolding lengthsOf
-lengths-length entries n e = map-length _ (take n entries) ∙ length-take n entries ∙ ap (min n) e
+lengths-length entries n e = length-map (take n entries) _ ∙ length-take n entries ∙ ap (min n) e
 
 pub length-at : (entries : List EntryIndex) (n j : ℕ) → j < length (lengthsOf entries n) → getD (lengthsOf entries n) j 0 ≡ getD entries j blankEntry .«entry_len»
 unfolding lengthsOf
 length-at entries n j h =
-    map-at (λ (r : EntryIndex). r .«entry_len») blankEntry (take n entries) j
-    ∙ ap (λ (r : EntryIndex). r .«entry_len») (getD-take n entries j blankEntry (omega (arith, map-length (λ (r : EntryIndex). r .«entry_len») (take n entries), length-take n entries)))
+    List·getD-map (λ (r : EntryIndex). r .«entry_len») (take n entries) j blankEntry
+    ∙ ap (λ (r : EntryIndex). r .«entry_len») (getD-take n entries j blankEntry (omega (arith, length-map (take n entries) (λ (r : EntryIndex). r .«entry_len»), length-take n entries)))

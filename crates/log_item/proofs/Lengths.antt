@@ -2,7 +2,7 @@
 -- Assumes nothing.
 use Prim.Native.Nat.{ℕ, zero, suc, _+_, _-_, _≤_, _<_}
 use mathlib.Core.Path.{_≡_, refl, sym, ap, _∙_}
-use mathlib.Core.Bool.{Bool, true, false, _&&_}
+use mathlib.Core.Bool.{Bool, true, false, and-eq-true-iff}
 use mathlib.Core.List.{List, _∷_, _++_}
 use native.Mathlib.Omega.{arith}
 use lib.Dec.{leb}
@@ -27,10 +27,6 @@ use Rattle.field.specs.Prefix.{inside}
 use Rattle.log_item.specs.Refusing.{opInside, contentInside}
 use Rattle.log_item.specs.Private.{fitted, spanLength, opLength, contentLength, headLength}
 
-pub and-both : (a b : Bool) → (a && b) ≡ true → (a ≡ true) × (b ≡ true)
-and-both true b e = (refl, e)
-and-both false b e = let z : _≡_ {A = Bool} false true = e in let w : _≡_ {A = ℕ} 0 1 = cc in absurd (omega arith)
-
 -- The test for room.
 pub past-end : (all at len : ℕ) → all < at → false ≡ leb (at + len) all
 past-end all at len h = sym (lt-leb (at + len) all (omega arith))
@@ -53,7 +49,7 @@ module _ (s : List ℕ) where
   pub op-length : (key : Span) (op : Op) → opInside s key op ≡ true → length (opBytes s key op) ≡ opLength key op
   unfolding opBytes opLength
   op-length key (Put v) h =
-      let i = and-both _ _ h in
+      let i = and-eq-true-iff _ _ .0 h in
       omega (arith, length-append (spanBytes s key) (spanBytes s v), span-length key (i .0), span-length v (i .1))
   op-length key Del h = omega (arith, span-length key h)
 

@@ -2,7 +2,7 @@
 -- Assumes nothing.
 use Prim.Native.Nat.{ℕ, zero, suc, _+_, _≤_, _<_}
 use mathlib.Core.Path.{_≡_, refl, sym, _∙_}
-use mathlib.Core.Bool.{Bool, true, false, cond, _&&_}
+use mathlib.Core.Bool.{Bool, true, false, cond, _&&_, and-eq-true-iff}
 use mathlib.Core.List.{List}
 use native.Mathlib.Omega.{arith}
 use lib.Dec.{ltb, leb}
@@ -18,7 +18,6 @@ use Rattle.log_item.specs.declared.Command.{Command}
 use Rattle.log_item.specs.declared.KeyValue.{KeyValue}
 use Rattle.log_item.specs.declared.LogItemContent.{LogItemContent}
 use Rattle.log_item.specs.declared.LogItemContent.the-variants as contents
-use Rattle.log_item.proofs.Lengths.{and-both}
 use Rattle.field.specs.Prefix.{inside}
 use Rattle.log_item.specs.Refusing.{opInside, spanRefusal, contentInside, indexRefusal, entriesRefusal, keyRefusal, contentRefusal}
 use Rattle.log_item.specs.Written.{pieceRefusal}
@@ -81,7 +80,7 @@ module _ (s : List ℕ) (key : Span) (op : Op) where
   delete-inside e h = rw (e, h)
 
   pub put-both : {v : Span} → op ≡ Put v → opInside s key op ≡ true → (inside s key ≡ true) × (inside s v ≡ true)
-  put-both {v} e h = and-both (inside s key) (inside s v) (rw e at h)
+  put-both {v} e h = and-eq-true-iff (inside s key) (inside s v) .0 (rw e at h)
 
   pub delete-one : op ≡ Del → opInside s key op ≡ true → inside s key ≡ true
   delete-one e h = rw e at h

@@ -2,7 +2,7 @@
 -- Assumes nothing.
 use Prim.Native.Nat.{ℕ, zero, suc, _+_, _-_, _≤_, _<_, _^_}
 use mathlib.Core.Path.{_≡_, refl, sym, ap, _∙_}
-use mathlib.Core.Bool.{true, false, cond}
+use mathlib.Core.Bool.{true, false, cond, and-eq-true-iff}
 use mathlib.Core.List.{List, [], _∷_, _++_, map, append-assoc}
 use native.Mathlib.Omega.{arith}
 use lib.ListN.{length, take, drop, length-take}
@@ -39,7 +39,7 @@ use Rattle.log_item.specs.Refusing.{opInside, contentInside, contentRefusal}
 use Rattle.refusal.specs.First.{firstOf}
 use Rattle.log_item.specs.Written.{sumOf, rowLengths, itemBytes, tailRefusal, itemRefusal}
 use Rattle.log_item.specs.Relocated.{spanAt, keyAt, stated, contentAt, itemAt, rowsFrom, itemRows, spansOf, numbersOf, Small}
-use Rattle.log_item.proofs.Lengths.{and-both, part-length, span-length}
+use Rattle.log_item.proofs.Lengths.{part-length, span-length}
 use Rattle.log_item.proofs.Refusals.{untaken, taken, content-inside, content-allowed}
 use Rattle.log_item.proofs.Tails.{sum-rises}
 
@@ -66,7 +66,7 @@ content-written s p (contents.Kv k) h z = go (k .op) h z
   where
     go : (o : Op) → opInside s (k .key) o ≡ true → Small (numbersOf (contents.Kv (record { key = k .key; op = o }))) → Contents (NumberIn Plain) (contents.Kv (keyAt p (k .key) o)) p (opBytes s (k .key) o)
     go (Put v) i (one a (one b c)) =
-        let both = and-both _ _ i in
+        let both = and-eq-true-iff _ _ .0 i in
         let e : p + 1 + length (spanBytes s (k .key)) ≡ p + 1 + length (shortest (k .key .len)) + k .key .len = omega (arith, span-length s (k .key) (both .0)) in
         rw e at (put (span-written s (p + 1) (k .key) (both .0) a) (span-written s (p + 1 + length (spanBytes s (k .key))) v (both .1) b))
     go Del i (one a c) = delete (span-written s (p + 1) (k .key) i a)
@@ -153,7 +153,7 @@ module _ (s : List ℕ) {b : List ℕ} where
       go : (o : Op) → opInside s (k .key) o ≡ true → At b p q (opBytes s (k .key) o)
           → map (bytesOf b) (spansOf (contents.Kv (keyAt p (k .key) o))) ≡ map (bytesOf s) (spansOf (contents.Kv (record { key = k .key; op = o })))
       go (Put v) i f =
-          let both = and-both _ _ i in
+          let both = and-eq-true-iff _ _ .0 i in
           let c = cut (spanBytes s (k .key)) (cut (1 ∷ []) f .1) in
           let e : p + 1 + length (spanBytes s (k .key)) ≡ p + 1 + length (shortest (k .key .len)) + k .key .len = omega (arith, span-length s (k .key) (both .0)) in
           let key = span-kept (k .key) (both .0) (c .0) in
