@@ -25,7 +25,7 @@ use Rattle.log_item.specs.declared.EntryIndexes.{EntryIndexes}
 use Rattle.log_item.proofs.Known.{tail-known, head-known, head-room}
 use Rattle.body_check.specs.Reading.{accepted, rejected, items, count, readItems}
 use Rattle.log_item.specs.Blank.{blankItem, blankEntry}
-use Rattle.item_batch.proofs.Rows.{Rows, rows-none, rows-set, rows-take}
+use Rattle.item_batch.proofs.Rows.{FilledRows, rows-none, rows-set, rows-take}
 use Rattle.item_batch.proofs.Coming.{prepend, behind, rowOf, rest, prepend-none, prepend-item, prepend-row, row-suc, bad-suc, rest-zero, item-suc, no-item}
 
 -- k items are wanted, i are in the table xs, and j rows in the table rows; n tails are left of the item before, the first of them with the
@@ -37,8 +37,8 @@ pub record Filling (s : List ℕ) (k : ℕ) (xs : List LogItem) (rows : List Ent
   pub owned : n ≤ i * 1024
   pub low : t ≤ 4294967295
   pub wraps : 0 < n → index + n ≤ 2 ^ 64
-  pub filled-items : Rows blankItem 256 i xs
-  pub filled-rows : Rows blankEntry 1024 j rows
+  pub filled-items : FilledRows blankItem 256 i xs
+  pub filled-rows : FilledRows blankEntry 1024 j rows
   pub unrefused : none ≡ record { number = 0; item = 0 }
   pub so-far : prepend (take i xs) (take j rows) (rest s k i j p t n index) ≡ readItems Any s
 

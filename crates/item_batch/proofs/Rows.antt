@@ -9,20 +9,20 @@ use lib.ListN.{length, take, drop, set, replicate, length-set, length-replicate,
 use lib.Seq.{take-suc-set, drop-set-lt, drop-drop, length-take-le}
 use Rattle.item_batch.specs.Table.{pad}
 
-pub record Rows {A : Type 0} (z : A) (n k : ℕ) (xs : List A) : Type 0 where
+pub record FilledRows {A : Type 0} (z : A) (n k : ℕ) (xs : List A) : Type 0 where
   pub size : length xs ≡ n
   pub blank : drop k xs ≡ replicate (n - k) z
 
 module _ {A : Type 0} {z : A} where
   -- No row is filled.
-  pub rows-none : (n : ℕ) → Rows z n 0 (replicate n z)
+  pub rows-none : (n : ℕ) → FilledRows z n 0 (replicate n z)
   rows-none n =
       let all : n ≡ n - 0 = omega arith in
       record { size = length-replicate n z; blank = ap (λ (m : ℕ). replicate m z) all }
 
-  module _ {n k : ℕ} {xs : List A} (r : Rows z n k xs) where
+  module _ {n k : ℕ} {xs : List A} (r : FilledRows z n k xs) where
     -- The row after the filled ones is filled.
-    pub rows-set : (v : A) → k < n → Rows z n (k + 1) (set xs k v)
+    pub rows-set : (v : A) → k < n → FilledRows z n (k + 1) (set xs k v)
     rows-set v h =
         let one : n - k ≡ suc (n - (k + 1)) = omega arith in
         record {

@@ -23,7 +23,7 @@ use Rattle.log_item.specs.Written.{partWrote}
 use Rattle.log_item.specs.Private.{Room, Stored}
 use Rattle.log_item.specs.declared.PartWrote.{PartWrote}
 use Rattle.log_item.specs.declared.PartWrote.the-variants as part
-use Rattle.log_item.proofs.Stores.{Answered, none-refused, stored-at}
+use Rattle.log_item.proofs.Stores.{PartAnswered, none-refused, stored-at}
 use Rattle.list_writer.specs.Pieces.{headRefusal, headNext, headPlaced, footerOf, footerNext, footerPlaced}
 
 -- ---- an item up to its tails
@@ -37,7 +37,7 @@ same-place zero at next m e = absurd (let z : _≡_ {A = ℕ} 0 1 = cc in omega 
 same-place (suc r) at next m e = refl
 
 module _ (s : List ℕ) (x : LogItem) (out : List ℕ) (at : ℕ) {later : List ℕ} where
-  module _ {w : PartWrote} (p : Answered (contentInside s (x .content)) out at (headBytes s x) w later) where
+  module _ {w : PartWrote} (p : PartAnswered (contentInside s (x .content)) out at (headBytes s x) w later) where
     pub head-next : {n : ℕ} → w ≡ part.Next n → (n ≡ headNext s x (length out) at) × (later ≡ headPlaced s x out at)
     unfolding headNext headPlaced
     head-next {n} e = (next-place (headRefusal s x (length out) at) at _ n (sym e ∙ p .0), p .1)

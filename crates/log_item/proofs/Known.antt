@@ -17,7 +17,7 @@ use Rattle.log_item.specs.declared.LogItem.{LogItem}
 use Rattle.field.proofs.Holds.{Holds, holds, refuses, after, later, at-most, chosen, of-got}
 
 -- entries that may follow e others: what is stated of them where there is one
-pub record Fits (e : ℕ) (x : EntryIndexes) : Type 0 where
+pub record EntriesFit (e : ℕ) (x : EntryIndexes) : Type 0 where
   pub few : 0 < x .count → e + x .count ≤ 1024
   pub last : 0 < x .count → x .«first_index» + x .count ≤ 2 ^ 64
 
@@ -30,38 +30,38 @@ module _ (form : Form) (s : List ℕ) where
   pub tail-known : (t p : ℕ) {w q : ℕ} → tail form s t p ≡ got w q → (t ≤ w) × (w ≤ 4294967295)
   tail-known t p e = of-got (tail-holds t p) e
 
-  first-holds : (e n p : ℕ) → e + n ≤ 1024 → Holds (λ x q. Fits e x) (firstIndex form s n p)
+  first-holds : (e n p : ℕ) → e + n ≤ 1024 → Holds (λ x q. EntriesFit e x) (firstIndex form s n p)
   unfolding firstIndex
   first-holds e zero p h = holds (record { few = λ _. h; last = λ k. absurd (omega arith) })
   first-holds e (suc n) p h =
       later (number form s p) λ i q. at-most (i + n) 18446744073709551615 17 _ q λ k. holds (record { few = λ _. h; last = λ _. omega arith })
 
-  entries-hold : (e p : ℕ) → Holds (λ x q. Fits e x) (entryIndexes form s e p)
+  entries-hold : (e p : ℕ) → Holds (λ x q. EntriesFit e x) (entryIndexes form s e p)
   unfolding entryIndexes
   entries-hold e p = later (number form s p) λ n q. at-most (e + n) 1024 14 _ q λ h. first-holds e n q h
 
-  content-holds : (e b p : ℕ) → Holds (λ c q. Fits e (entriesOf c)) (content form s e b p)
+  content-holds : (e b p : ℕ) → Holds (λ c q. EntriesFit e (entriesOf c)) (content form s e b p)
   unfolding content
   content-holds e b p =
       chosen (eqb b 1) _ _ p (λ _. after (entries-hold e p) λ x q h. holds h)
       (chosen (eqb b 2) _ _ p (λ _. later (command form s p) λ x q. holds none)
       (chosen (eqb b 3) _ _ p (λ _. later (keyValue form s p) λ x q. holds none) refuses))
     where
-      none : Fits e (record { count = 0; «first_index» = 0 })
+      none : EntriesFit e (record { count = 0; «first_index» = 0 })
       none = record { few = λ k. absurd (omega arith); last = λ k. absurd (omega arith) }
 
-  head-holds : (e p : ℕ) → Holds (λ x q. Fits e (entriesOf (x .content))) (head form s e p)
+  head-holds : (e p : ℕ) → Holds (λ x q. EntriesFit e (entriesOf (x .content))) (head form s e p)
   unfolding head
   head-holds e p = later (number form s p) λ g q. later (byte s q) λ b z. after (content-holds e b z) λ c y h. holds h
 
   module _ (e p : ℕ) {x : LogItem} {q : ℕ} (k : head form s e p ≡ got x q) where
     -- An item's entries are among the first 1,024 of the batch, and the last has an index of 64 bits.
-    pub head-known : Fits e (entriesOf (x .content))
+    pub head-known : EntriesFit e (entriesOf (x .content))
     head-known = of-got (head-holds e p) k
 
     -- With them there are no more than before, or no more than 1,024.
     pub head-room : {d : EntryIndexes} → d ≡ entriesOf (x .content) → (m : ℕ) → e ≤ m → 1024 ≤ m → e + d .count ≤ m
     head-room {d} f m h l = rw f (go (entriesOf (x .content)) head-known)
       where
-        go : (d : EntryIndexes) → Fits e d → e + d .count ≤ m
+        go : (d : EntryIndexes) → EntriesFit e d → e + d .count ≤ m
         go d g = ⊎-elim (λ (z : d .count ≡ 0). omega arith) (λ (z : 0 < d .count). omega (arith, g .few z)) (eq-zero-or-pos (d .count))

@@ -85,8 +85,8 @@ module _ (out bs : List ℕ) (at : ℕ) {n l : ℕ} {r : Bool} (small : length o
   short-told h = let k : length out < at + l = leb-false _ _ (sym t ∙ h) in omega arith
 
 -- The answers of a function that tests first whether spans lie in the store and whether bytes fit.
-abbrev pub Answered : Bool → List ℕ → ℕ → List ℕ → PartWrote → List ℕ → Type 0
-Answered b out at bs r later = (r ≡ partWrote (pieceRefusal b at (length bs) (length out)) (at + length bs)) × (later ≡ itemPlaced (pieceRefusal b at (length bs) (length out)) out at bs)
+abbrev pub PartAnswered : Bool → List ℕ → ℕ → List ℕ → PartWrote → List ℕ → Type 0
+PartAnswered b out at bs r later = (r ≡ partWrote (pieceRefusal b at (length bs) (length out)) (at + length bs)) × (later ≡ itemPlaced (pieceRefusal b at (length bs) (length out)) out at bs)
 
 refused-part : (r next : ℕ) (out : List ℕ) (at : ℕ) (bs : List ℕ) → (r ≡ 0 → ⊥) → (part.Refused r ≡ partWrote r next) × (out ≡ itemPlaced r out at bs)
 refused-part zero next out at bs h = absurd (h refl)
@@ -111,7 +111,7 @@ module _ (b : Bool) (out bs : List ℕ) (at : ℕ) {d : Bool} {n l r : ℕ} (sma
       go true f = rw (told (f refl) (leb (at + l) (length out)) refl)
       go false f = refl
 
-  pub piece-refused : (r ≡ 0 → ⊥) → Answered b out at bs (part.Refused r) out
+  pub piece-refused : (r ≡ 0 → ⊥) → PartAnswered b out at bs (part.Refused r) out
   piece-refused h = rw (← same-refusal) (refused-part r _ out at bs h)
 
   module _ (z : r ≡ 0) where
@@ -121,7 +121,7 @@ module _ (b : Bool) (out bs : List ℕ) (at : ℕ) {d : Bool} {n l r : ℕ} (sma
         let p = all-inside b _ (sym same-refusal ∙ z) in
         (p .0, record { fits = leb-true _ _ (taken (leb (at + length bs) (length out)) 20 0 (p .1) .0) })
 
-    pub piece-stored : {next : ℕ} {later : List ℕ} → Stored out at bs next later → Answered b out at bs (part.Next next) later
+    pub piece-stored : {next : ℕ} {later : List ℕ} → Stored out at bs next later → PartAnswered b out at bs (part.Next next) later
     piece-stored {next} {later} w =
         let p = room-for out at bs later next (piece-ready .1 .fits) (w .stored, w .after) in
         rw (← same-refusal, z) (ap part.Next (w .after), p .1)

@@ -224,14 +224,14 @@ first-small (contents.Command c) z = lit< tt
 first-small (contents.Kv k) z = lit< tt
 
 -- What `encode` does not refuse can be written, fits, and can be read.
-pub record Accepted (s : List ℕ) (x : LogItem) (lengths : List ℕ) (t : ℕ) (out : List ℕ) (at : ℕ) : Type 0 where
+pub record ItemAccepted (s : List ℕ) (x : LogItem) (lengths : List ℕ) (t : ℕ) (out : List ℕ) (at : ℕ) : Type 0 where
   pub writable : Writable s x lengths t
   pub room : at + length (itemBytes s x lengths t) ≤ length out
   pub few : entriesOf (x .content) .count ≤ 1024
   pub last : entriesOf (x .content) .«first_index» + entriesOf (x .content) .count ≤ 2 ^ 64
 
 pub encode-accepted : (s : List ℕ) (x : LogItem) (lengths : List ℕ) (t : ℕ) (out : List ℕ) (at : ℕ) → Small (x .«raft_group_id» ∷ numbersOf (x .content))
-    → itemRefusal s x lengths t out at ≡ 0 → Accepted s x lengths t out at
+    → itemRefusal s x lengths t out at ≡ 0 → ItemAccepted s x lengths t out at
 unfolding itemRefusal
 encode-accepted s x lengths t out at (one g z) h =
     let long : ℕ = at + length (itemBytes s x lengths t) in
