@@ -46,13 +46,13 @@ pub joined-append : {t v u : ℕ} {a b : List EntryIndex} → Joined t v a → J
 joined-append lie.Joined.end g = g
 joined-append (lie.Joined.then e h) g = lie.Joined.then e (joined-append h g)
 
-module _ {P : EntryIndex → Type 0} where
-  -- What each row of two lists has, each row of both together has.
-  pub each-append : {a b : List EntryIndex} → Each P a → Each P b → Each P (a ++ b)
+module _ {A : Type 0} {P : A → Type 0} where
+  -- What each member of two lists has, each member of both together has.
+  pub each-append : {a b : List A} → Each P a → Each P b → Each P (a ++ b)
   each-append every.Each.none f = f
   each-append (one h e) f = one h (each-append e f)
 
-  -- What each row of two lists together has, each row of the one and of the other has.
-  pub each-split : (a : List EntryIndex) {b : List EntryIndex} → Each P (a ++ b) → Each P a × Each P b
+  -- What each member of two lists together has, each member of the one and of the other has.
+  pub each-split : (a : List A) {b : List A} → Each P (a ++ b) → Each P a × Each P b
   each-split [] e = (every.Each.none, e)
   each-split (r ∷ a) (one h e) = let parts = each-split a e in (one h (parts .0), parts .1)

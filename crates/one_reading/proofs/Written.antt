@@ -58,8 +58,7 @@ use Rattle.item_batch.specs.Writing.{listed, BodyWritten, itemsAt, rowsAt, body
 use Rattle.one_reading.proofs.Listing.{spells-as, spells-some}
 use Rattle.one_reading.proofs.Bodies.{part-of, footer-of, complete-body}
 use Rattle.body_check.proofs.Bodies.{body-refused}
-use Rattle.one_reading.proofs.WrittenBytes as octets
-use Rattle.one_reading.proofs.WrittenBytes.{AllBytes, joined, bytes-all, shortest-bytes, item-bytes}
+use Rattle.one_reading.proofs.WrittenBytes.{AllBytes, bytes-all, shortest-bytes, item-bytes}
 
 -- ---- an item that is not refused
 
@@ -139,12 +138,12 @@ module _ (s : List ℕ) (checked : Bool) where
   pub items-bytes : Bytes s → (xs : List LogItem) (ns : List ℕ) (used k t u : ℕ) → AllSmall xs → itemsVerdict s checked xs ns used k t ≡ fine u
       → AllBytes (itemsBytes s xs ns t)
   unfolding itemsBytes
-  items-bytes bytes [] ns used k t u none h = octets.end
+  items-bytes bytes [] ns used k t u none h = none
   items-bytes bytes (x ∷ xs) ns used k t u (one z zs) h =
       let f = items-fine s checked x xs ns used k t u h in
       let n : ℕ = entriesOf (x .content) .count in
       let rest = items-bytes bytes xs (drop n ns) (used + n) (k + 1) (sumOf t (rowLengths x ns)) u zs (f .2) in
-      joined (item-bytes s bytes x ns t z (f .1)) rest
+      each-append (item-bytes s bytes x ns t z (f .1)) rest
 
 items-length : (s : List ℕ) (xs : List LogItem) (ns : List ℕ) (p t : ℕ) → length (itemsAt s xs ns p t) ≡ length xs
 unfolding itemsAt
@@ -194,7 +193,7 @@ module _ (s : List ℕ) (checked : Bool) (xs : List LogItem) (ns : List ℕ) (to
   unfolding listBytes
   written-bytes bytes =
       let few = told .0 in
-      bytes-all (joined (shortest-bytes (length xs) (omega arith)) (items-bytes s checked bytes xs ns 0 0 0 total z (told .1)))
+      bytes-all (each-append (shortest-bytes (length xs) (omega arith)) (items-bytes s checked bytes xs ns 0 0 0 total z (told .1)))
 
   -- The key and content bytes of each item in the body are those in the store.
   pub written-kept : (signature : ℕ) → keysAndContents (bodyBytes s xs ns signature) (bodyItems s xs ns) ≡ keysAndContents s xs
