@@ -1,8 +1,8 @@
 -- What reading into lent rows comes to: a law for each way out of the code.
 -- Assumes nothing.
 use Prim.Native.Nat.{ℕ, _/_, _≤_, _<_}
-use mathlib.Core.Path.{_≡_, refl, _∙_}
-use mathlib.Core.Bool.{Bool, true, false, _&&_}
+use mathlib.Core.Path.{_≡_, _∙_}
+use mathlib.Core.Bool.{and-false}
 use mathlib.Core.List.{List}
 use native.Mathlib.Omega.{arith}
 use borrow.Author.Tests.{le-leb, lt-leb, eq-eqb, ne-eqb}
@@ -85,10 +85,6 @@ module _ (wanted : Wanted) (a : Answer) {m n u q : ℕ} (e : Accepted m n u q �
 
 -- ---- the rows that are lent
 
-neither : (b : Bool) → (b && false) ≡ false
-neither true = refl
-neither false = refl
-
 module _ {a b : Answer} {m n u q : ℕ} (g : Agreed a b m n u q) (items entries : List ℕ) where
   pub short-items : {r : BodyCheck} → length items / 7 < m → r ≡ Refused (record { number = 21; item = 0 }) → RowsRead b items entries r items entries
   short-items h f =
@@ -101,8 +97,8 @@ module _ {a b : Answer} {m n u q : ℕ} (g : Agreed a b m n u q) (items entries 
       let k : length entries / 3 < length (g .rows) = omega (arith, g .used) in
       let e = g .agrees in
       record {
-        answer = rw (e, lt-leb _ _ k, neither) f;
-        rows = record { item-rows = rw (e, lt-leb _ _ k, neither); entry-rows = rw (e, lt-leb _ _ k, neither) };
+        answer = rw (e, lt-leb _ _ k, and-false) f;
+        rows = record { item-rows = rw (e, lt-leb _ _ k, and-false); entry-rows = rw (e, lt-leb _ _ k, and-false) };
       }
 
   module _ (room : m ≤ length items / 7) (more : n ≤ length entries / 3) where
