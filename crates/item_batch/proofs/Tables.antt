@@ -5,6 +5,7 @@ use mathlib.Core.Path.{_≡_, sym}
 use mathlib.Core.List.{List}
 use native.Mathlib.Omega.{arith}
 use lib.ListN.{take, replicate}
+use lib.Seq.{take-append-seam}
 use Rattle.refusal.specs.declared.Refusal.{Refusal}
 use Rattle.field.specs.declared.Span.{Span}
 use Rattle.log_item.specs.declared.LogItem.{LogItem}
@@ -45,6 +46,12 @@ blanks body block n m none e h = rw (e, h)
 pub refused-table : (body block : Span) {a : Answer} {t : LogItemBatch} {r i : ℕ} → t ≡ emptyTable r i → a ≡ rejected r i → t ≡ tableOf body block a
 unfolding tableOf
 refused-table body block e h = rw h e
+
+-- The table of an accepted answer has its list in the rows that it counts.
+pub in-table : (body block : Span) (xs : List LogItem) (rows : List EntryIndex) (u q : ℕ) → let t = tableOf body block (accepted xs rows u q) in
+    (take (t .«item_count») (t .items) ≡ xs) × (take (t .«entry_count») (t .entries) ≡ rows)
+unfolding tableOf
+in-table body block xs rows u q = (take-append-seam xs _, take-append-seam rows _)
 
 -- The table that the loop leaves is that of the answer.
 pub filled : (body : Span) {block nowhere : Span} {s : List ℕ} {k : ℕ} {xs : List LogItem} {rows : List EntryIndex} {none : Refusal} {i j p t n index : ℕ} {a : Answer}

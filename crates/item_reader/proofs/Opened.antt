@@ -1,4 +1,4 @@
--- What opening finds in a body: its items stand after the count, before the footer; and where the table of an answer has its list.
+-- What opening finds in a body: its items stand after the count, before the footer.
 -- Assumes nothing.
 use Prim.Native.Nat.{ℕ, zero, suc}
 use mathlib.Core.Path.{_≡_}
@@ -6,18 +6,15 @@ use mathlib.Core.Bool.{Bool, true, false}
 use mathlib.Core.List.{List}
 use native.Mathlib.Omega.{arith}
 use lib.Dec.{leb}
-use lib.ListN.{length, take}
-use lib.Seq.{take-append-seam}
+use lib.ListN.{length}
 use Rattle.field.specs.Got.{Got, got, refused, done, bind, _>>_, _else_}
 use Rattle.field.specs.Reading.{number}
 use Rattle.field.specs.declared.Form.the-variants.{Any}
-use Rattle.field.specs.declared.Span.{Span}
 use Rattle.log_item.specs.declared.LogItem.{LogItem}
 use Rattle.log_item.specs.declared.EntryIndex.{EntryIndex}
 use Rattle.seal.specs.Seal.{sealedPart, sealCheck}
 use Rattle.body_check.specs.Reading.{accepted, rejected, counted, items, count, readItems}
 use Rattle.body_check.specs.Body.{unless, readBody}
-use Rattle.item_batch.specs.Table.{tableOf}
 use Rattle.one_reading.proofs.Accepts.{of-accepted}
 use Rattle.one_reading.proofs.Listing.{sound-items}
 use Rattle.item_reader.specs.Reader.{placeOf, afterCount, openingOf}
@@ -59,9 +56,3 @@ pub opening-bad : (body : List ℕ) (signature : ℕ) {n i : ℕ} → readBody b
     → openingOf body signature ≡ record { at = 0; count = 0; refusal = record { number = n; item = i } }
 unfolding openingOf
 opening-bad body signature e = rw e
-
--- The table of an answer has its list in the rows that it counts.
-pub in-table : (place block : Span) (xs : List LogItem) (rows : List EntryIndex) (u q : ℕ) → let t = tableOf place block (accepted xs rows u q) in
-    (take (t .«item_count») (t .items) ≡ xs) × (take (t .«entry_count») (t .entries) ≡ rows)
-unfolding tableOf
-in-table place block xs rows u q = (take-append-seam xs _, take-append-seam rows _)

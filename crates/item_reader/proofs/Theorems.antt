@@ -15,13 +15,14 @@ use Rattle.body_check.specs.Reading.{accepted, rejected}
 use Rattle.body_check.specs.Body.{readBody}
 use Rattle.log_item.specs.Blank.{blankItem}
 use Rattle.item_batch.specs.Table.{tableOf}
+use Rattle.item_batch.proofs.Tables.{in-table}
 use Rattle.item_reader.specs.declared.EntryRows.{EntryRows}
 use Rattle.item_reader.specs.declared.ItemReader.{ItemReader}
 use Rattle.item_reader.specs.declared.Next.the-variants as next
 use Rattle.item_reader.specs.Reader.{atFirst, afterCount, opened, afterCalls, nthOf}
 use Rattle.item_reader.specs.Stepping.{StepsThrough}
 use Rattle.item_reader.specs.Stepping as go
-use Rattle.item_reader.proofs.Opened.{in-body, opening-good, opening-bad, in-table}
+use Rattle.item_reader.proofs.Opened.{in-body, opening-good, opening-bad}
 use Rattle.body_check.proofs.Refusing.{refusal-some}
 use Rattle.item_reader.proofs.Through as through
 

@@ -9,7 +9,7 @@ use mathlib.Core.Bool.{Bool}
 use native.Mathlib.Omega.{arith}
 use borrow.Author.Tests.{le-leb, eq-eqb, ne-eqb}
 use lib.ListN.{length, take, drop}
-use lib.Seq.{take-append-seam, take-at}
+use lib.Seq.{take-at}
 use lib.Bits.{bitXor}
 use Rattle.numbers.specs.Number.{readFrom, readNumber}
 use Rattle.numbers.specs.Shortest.{spell, shortest}
@@ -42,6 +42,7 @@ use Rattle.body_check.specs.Answers.{checkOf, yesNo, plainBody}
 use Rattle.body_check.proofs.Refusing.{refusal-some}
 use Rattle.item_batch.specs.declared.LogItemBatch.{LogItemBatch}
 use Rattle.item_batch.specs.Table.{tableOf, emptyTable}
+use Rattle.item_batch.proofs.Tables.{in-table}
 use Rattle.item_batch.specs.Writing.{listed, tableLengths, BodyWritten, bodyItems, bodyRows, keysAndContents, AllSmall}
 use Rattle.log_item.specs.Spelling.{NumberIn}
 use Rattle.one_reading.specs.Spelling.{Spells, list}
@@ -224,7 +225,7 @@ table-right = (
 pub list-returned : (body block : Span) (xs : List LogItem) (rows : List EntryIndex) (u q : ℕ) → let t = tableOf body block (accepted xs rows u q) in
     (take (t .«item_count») (t .items) ≡ xs) × (take (t .«entry_count») (t .entries) ≡ rows) × (t .total ≡ u) × (t .next ≡ q) × (t .refusal .number ≡ 0)
 unfolding tableOf
-list-returned body block xs rows u q = (take-append-seam xs _, take-append-seam rows _, refl, refl, refl)
+list-returned body block xs rows u q = let t = in-table body block xs rows u q in (t .0, t .1, refl, refl, refl)
 
 -- A refused reading hands back an empty table.
 pub refused-empty : (body block : Span) (r i : ℕ) → tableOf body block (rejected r i) ≡ emptyTable r i

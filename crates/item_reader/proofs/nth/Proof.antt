@@ -4,10 +4,9 @@
 --     more     a turn that goes on after its call.        ends      the turn that returns what its call answers.        walk      the MIR up to the loop
 -- Assumes nothing.
 use mathlib.Core.Path.{_≡_, refl, ap, subst, _∙_}
-use Prim.Native.Nat.{ℕ, suc, _+_, _<_, _^_}
+use Prim.Native.Nat.{ℕ, suc, _<_, _^_}
 use native.Mathlib.Nat.{zero-add, lt-irrefl}
 use native.Mathlib.Numerals.{add-one}
-use native.Mathlib.Omega.{arith}
 use mathlib.Core.Bool.{Bool}
 use mathlib.Core.List.{List, [], _∷_}
 use lib.ListN.{length}
@@ -49,7 +48,7 @@ use denote.Exit.{yes}
 use Rattle.item_reader.specs.declared.ItemReader.{ItemReader}
 use Rattle.item_reader.specs.declared.Next.{Next}
 use Rattle.item_reader.specs.Reader.{opened, stepFrom, after, afterCalls, nthOf}
-use Rattle.by_hand.proofs.Loop.{holds, fails, counted}
+use Rattle.by_hand.proofs.Loop.{holds, fails, step-fits, counted}
 use Rattle.item_reader.proofs.Lent as lent
 use Rattle.item_reader.proofs.Walking as walking
 use Rattle.by_hand.proofs.Locals.{tyAt}
@@ -76,9 +75,6 @@ word = tyAt body.locals 5
 
 abbrev stays-so : Stays (f.ended .signature .params) (f.ended .kept)
 stays-so = (stay-none-slice (0 ∷ []) tt (plain (λ _. u8)) yes, (stay-none (λ _. u32) yes, (stay-none (λ _. usize) yes, tt)))
-
-step-fits : (i k : ℕ) → i < k → k < 2 ^ 64 → i + 1 < 2 ^ 64
-step-fits i k h g = omega arith
 
 module _ {M : Type 1} (𝓤 : URA M) (H : Heap 𝓤) (A : Atoms 𝓤) (at-mem : Memory → SProp 𝓤) (run : Routine → Fun 𝓤) where
   -- the contract that the proof cites beside `next`'s
