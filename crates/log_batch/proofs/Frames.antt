@@ -228,8 +228,8 @@ table-of s signature {h} {q} e = go (sealCheck (bodyOf h s) signature) refl
         rw (sym (batch-broken s signature e k some), body-refused (bodyOf h s) signature k some)
 
 -- a table with other places
-abbrev pub placed : Span → Span → LogItemBatch → LogItemBatch
-placed body block t =
+abbrev pub withPlaces : Span → Span → LogItemBatch → LogItemBatch
+withPlaces body block t =
     record {
       items = t .items;
       «item_count» = t .«item_count»;
@@ -260,11 +260,11 @@ module _ (body block : Span) (n : ℕ) where
 
   -- The total that is wanted: the places are stated.
   held-same : (k l : Span) (a : Answer) {t : LogItemBatch} → t ≡ tableOf k l a → ((r i : ℕ) → a ≡ rejected r i → r ≡ 0 → ⊥)
-      → t .refusal .number ≡ 0 → t .total ≡ n → placed body block t ≡ tableOf body block (agreeing (Exactly n) a)
+      → t .refusal .number ≡ 0 → t .total ≡ n → withPlaces body block t ≡ tableOf body block (agreeing (Exactly n) a)
   unfolding tableOf
   held-same k l (accepted xs rows u q) e some none same =
       let o : u ≡ n = sym (ap (λ (y : LogItemBatch). y .total) e) ∙ same in
-      rw (eq-eqb u n o) (ap (placed body block) e)
+      rw (eq-eqb u n o) (ap (withPlaces body block) e)
   held-same k l (rejected r i) e some none same = absurd (some r i refl (sym (ap (λ (y : LogItemBatch). y .refusal .number) e) ∙ none))
 
 module _ (s : List ℕ) (signature : ℕ) {h : LogBatch} {q : ℕ} (e : frontBatch s 0 ≡ got h q) (k l : Span) {t : LogItemBatch}
@@ -279,6 +279,6 @@ module _ (s : List ℕ) (signature : ℕ) {h : LogBatch} {q : ℕ} (e : frontBat
         held-other _ _ _ k l (readBody (bodyOf h s) signature) read (λ r i. refusal-some (bodyOf h s) signature) none o f ∙ sym (table-of s signature e)
 
     pub table-placed : t .total ≡ n
-        → placed (record { at = h .offset; len = h .len - h .offset }) (record { at = 16; len = h .offset - 16 }) t ≡ readBatch s signature
+        → withPlaces (record { at = h .offset; len = h .len - h .offset }) (record { at = 16; len = h .offset - 16 }) t ≡ readBatch s signature
     table-placed same =
         held-same _ _ _ k l (readBody (bodyOf h s) signature) read (λ r i. refusal-some (bodyOf h s) signature) none (same ∙ size) ∙ sym (table-of s signature e)
