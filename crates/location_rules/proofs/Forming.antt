@@ -5,18 +5,11 @@ use Prim.Native.Nat.{ℕ, zero, suc, _+_, _-_, _<_, _≤_, _^_, max}
 use native.Mathlib.Omega.{arith}
 use mathlib.Core.Bool.{Bool, true, false}
 use lib.Dec.{leb}
-use borrow.Author.Tests.{le-leb, lt-leb, leb-true, leb-false}
+use borrow.Author.Tests.{le-leb, lt-leb}
+use Rattle.words.proofs.Tests.{same-test}
 use Rattle.location_rules.specs.declared.Table.{Table}
 use Rattle.location_rules.specs.Parts.{indexesFit, wellFormedBy, readyBy}
 use Rattle.location_rules.specs.Decisions.{noRun, fetched}
-
--- two tests that hold together
-same-test : (a b c d : ℕ) → (a ≤ b → c ≤ d) → (b < a → d < c) → leb a b ≡ leb c d
-same-test a b c d f g = told (leb a b) refl
-  where
-    told : (t : Bool) → leb a b ≡ t → t ≡ leb c d
-    told true e = sym (le-leb c d (f (leb-true a b e)))
-    told false e = sym (lt-leb c d (g (leb-false a b e)))
 
 -- indexes from first on, n of them
 module _ (first n : ℕ) where

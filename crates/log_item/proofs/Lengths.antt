@@ -2,12 +2,13 @@
 -- Assumes nothing.
 use Prim.Native.Nat.{ℕ, zero, suc, _+_, _-_, _≤_, _<_}
 use mathlib.Core.Path.{_≡_, refl, sym, ap, _∙_}
-use mathlib.Core.Bool.{Bool, true, false, and-eq-true-iff}
+use mathlib.Core.Bool.{true, false, and-eq-true-iff}
 use mathlib.Core.List.{List, _∷_, _++_}
 use native.Mathlib.Omega.{arith}
 use lib.Dec.{leb}
 use lib.ListN.{length, take, drop, length-append, length-take, length-drop}
-use borrow.Author.Tests.{leb-true, leb-false, le-leb, lt-leb}
+use borrow.Author.Tests.{lt-leb}
+use Rattle.words.proofs.Tests.{same-test}
 use Rattle.numbers.specs.Shortest.{shortest, spell}
 use Rattle.field.proofs.Inside.{inside-bound}
 use Rattle.field.specs.Prefix.{bytesOf}
@@ -32,11 +33,7 @@ pub past-end : (all at len : ℕ) → all < at → false ≡ leb (at + len) all
 past-end all at len h = sym (lt-leb (at + len) all (omega arith))
 
 pub room-left : (all at len : ℕ) → at ≤ all → leb len (all - at) ≡ leb (at + len) all
-room-left all at len h = go (leb len (all - at)) refl
-  where
-    go : (t : Bool) → leb len (all - at) ≡ t → t ≡ leb (at + len) all
-    go true e = let l : len ≤ all - at = leb-true _ _ e in sym (le-leb (at + len) all (omega arith))
-    go false e = let l : all - at < len = leb-false _ _ e in sym (lt-leb (at + len) all (omega arith))
+room-left all at len h = same-test len (all - at) (at + len) all (λ l. omega (arith, h, l)) (λ l. omega (arith, h, l))
 
 module _ (s : List ℕ) where
   pub part-length : (k : Span) → inside s k ≡ true → length (bytesOf s k) ≡ k .len

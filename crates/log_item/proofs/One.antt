@@ -2,11 +2,10 @@
 -- Each lemma takes two spellings with the bytes behind them, r and z, and says that the bytes behind them are the same too.
 -- Assumes nothing.
 use Prim.Native.Nat.{ℕ}
-use mathlib.Core.Path.{_≡_, refl, sym, ap, _∙_}
+use mathlib.Core.Path.{_≡_, refl}
 use mathlib.Core.List.{List, _∷_, _++_, append-assoc, append-cancel-left}
 use native.Mathlib.Omega.{arith}
-use lib.ListN.{length, take}
-use lib.Seq.{take-append-seam, take-at}
+use Rattle.words.proofs.Bytes.{as-long}
 use Rattle.numbers.proofs.Theorems.{one-spelling}
 use Rattle.field.specs.declared.Form.the-variants.{Any}
 use Rattle.field.specs.declared.Span.{Span}
@@ -23,10 +22,6 @@ use Rattle.log_item.specs.Spelling.{NumberIn, Spanned, spanned, Contents
 -- The same bytes without the same beginning are the same.
 rest : {x y : List ℕ} (r z : List ℕ) → x ≡ y → x ++ r ≡ y ++ z → r ≡ z
 rest {x} r z same e = append-cancel-left x r z (rw (← same) at e)
-
--- Beginnings of the same bytes that are as long are the same.
-as-long : (x y r z : List ℕ) → length x ≡ length y → x ++ r ≡ y ++ z → x ≡ y
-as-long x y r z long e = sym (take-append-seam x r) ∙ ap (take (length x)) e ∙ take-at y z (length x) (sym long)
 
 -- Numbers in any spelling.
 pub one-number : {n m : ℕ} {x y : List ℕ} (r z : List ℕ) → NumberIn Any n x → NumberIn Any m y → x ++ r ≡ y ++ z → (n ≡ m) × (x ≡ y) × (r ≡ z)

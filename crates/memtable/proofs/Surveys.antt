@@ -9,7 +9,8 @@ use mathlib.Core.List.{List, [], _∷_}
 use lib.Dec.{leb, leb·suc-suc, leb·suc-zero}
 use lib.ListN.{length, take, drop, length-drop}
 use lib.Seq.{take-all, length-take-le}
-use borrow.Author.Tests.{le-leb, lt-leb, leb-true, leb-false}
+use borrow.Author.Tests.{lt-leb, leb-true, leb-false}
+use Rattle.words.proofs.Tests.{same-test}
 use Rattle.pipe_log.specs.declared.Location.{Location}
 use Rattle.pipe_log.specs.declared.LogQueue.{LogQueue}
 use Rattle.location_rules.specs.declared.Table.{Table}
@@ -47,11 +48,7 @@ all-append (r ∷ rs) = more-append (r .queue) (length rs) (runOf Stop.Rewrite r
 
 -- the same number on both sides of a test
 added : (c n k : ℕ) → c ≤ n → leb n (c + k) ≡ leb (n - c) k
-added c n k l = told (leb (n - c) k) refl
-  where
-    told : (t : Bool) → leb (n - c) k ≡ t → leb n (c + k) ≡ t
-    told true e = le-leb n (c + k) (omega (arith, leb-true (n - c) k e, l))
-    told false e = lt-leb n (c + k) (omega (arith, leb-false (n - c) k e, l))
+added c n k l = same-test n (c + k) (n - c) k (λ h. omega (arith, h, l)) (λ h. omega (arith, h, l))
 
 module _ (ys : List Location) (t : Table) where
   -- a count within the rows

@@ -9,10 +9,11 @@ use native.Mathlib.Nat.{le-trans, lt-of-le-of-lt}
 use lib.Bits.{bitOr, bitAnd, or-lt, or-add-and, and-le-l, and-le-r}
 use lib.Count.{leading-top}
 use lib.Dec.{lit<}
-use lib.ListN.{length, take, drop, length-append, length-drop}
+use lib.ListN.{length, drop, length-append, length-drop}
 use lib.Pow.{pow-pos}
-use lib.Seq.{take-append-seam, drop-append-seam}
+use lib.Seq.{drop-append-seam}
 use Rattle.words.specs.Byte.{Bytes}
+use Rattle.words.proofs.Bytes.{as-long}
 use Rattle.numbers.specs.declared.NumberRead.the-variants.{Done}
 use Rattle.numbers.specs.Spelling.{Spells, Stands}
 use Rattle.numbers.specs.Number.{readNumber, readFrom}
@@ -47,7 +48,7 @@ one-spelling {n} {m} {bs} {cs} r t hb hc e =
     let both : Done n (0 + length bs) ≡ Done m (0 + length cs) = sym rb ∙ ap (λ (l : List ℕ). readFrom 9 l 0) e ∙ rc in
     let len : 0 + length bs ≡ 0 + length cs = cc in
     let same : length bs ≡ length cs = omega arith in
-    (cc, sym (take-append-seam bs r) ∙ ap (λ (l : List ℕ). take (length bs) l) e ∙ ap (λ (k : ℕ). take k (cs ++ t)) same ∙ take-append-seam cs t)
+    (cc, as-long bs cs r t same e)
 
 -- What is read has a byte at least, and ends in the bytes.
 pub read-moves : (s : List ℕ) (at n next : ℕ) → readNumber s at ≡ Done n next → (at < next) × (next ≤ length s)

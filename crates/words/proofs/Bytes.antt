@@ -1,10 +1,11 @@
--- The parts of a list of bytes are bytes.
+-- The parts of a list of bytes are bytes, and two beginnings of it that are as long are the same.
 -- Assumes nothing.
 use Prim.Native.Nat.{ℕ, zero, suc, _+_, _<_}
+use mathlib.Core.Path.{_≡_, sym, ap, _∙_}
 use mathlib.Core.List.{List, [], _∷_, _++_}
 use lib.Dec.{lit<}
-use lib.ListN.{take, drop}
-use lib.Seq.{getD-drop}
+use lib.ListN.{length, take, drop}
+use lib.Seq.{getD-drop, take-append-seam, take-at}
 use Rattle.words.specs.Byte.{Bytes}
 
 pub bytes-front : (x y : List ℕ) → Bytes (x ++ y) → Bytes x
@@ -20,3 +21,6 @@ bytes-take (suc n) (d ∷ s) b (suc i) = bytes-take n s (λ j. b (suc j)) i
 
 pub bytes-drop : (n : ℕ) (s : List ℕ) → Bytes s → Bytes (drop n s)
 bytes-drop n s b i = rw getD-drop (b (n + i))
+
+pub as-long : (x y r z : List ℕ) → length x ≡ length y → x ++ r ≡ y ++ z → x ≡ y
+as-long x y r z long e = sym (take-append-seam x r) ∙ ap (take (length x)) e ∙ take-at y z (length x) (sym long)
