@@ -40,7 +40,7 @@ impl AtomicGroupStatus {
                 }
                 match op {
                     Op::Del => StatusRead::NoMark,
-                    Op::Put { value } => put_status(item.raft_group_id, key, value, store),
+                    Op::Put { value } => mark_of(item.raft_group_id, key, value, store),
                 }
             }
         }
@@ -48,7 +48,7 @@ impl AtomicGroupStatus {
 }
 
 // What a put marks, its key lying in the store.
-fn put_status(group: u64, key: Span, value: Span, store: &[u8]) -> StatusRead
+fn mark_of(group: u64, key: Span, value: Span, store: &[u8]) -> StatusRead
     requires { ⌜ inside (now store) key ≡ true ⌝ }
     ensures { λ r. ⌜ r ≡ markOf group key (Op.Put value) (now (store .entry)) ⌝ }
 {

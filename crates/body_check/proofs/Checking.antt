@@ -10,7 +10,7 @@ use lib.ListN.{length, length-append}
 use Rattle.field.specs.Got.{Got, got, refused, done, bind}
 use Rattle.log_item.specs.Reading.{Read, oneItem}
 use Rattle.field.specs.Reading.{number}
-use Rattle.log_item.specs.Answers.{Passed, passItem}
+use Rattle.log_item.specs.Answers.{Counted, passItem}
 use Rattle.refusal.specs.declared.Refusal.{Refusal}
 use Rattle.field.specs.declared.Form.{Form}
 use Rattle.field.specs.declared.Form.the-variants.{Plain}
@@ -77,7 +77,7 @@ module _ (form : Form) (s : List ℕ) where
     unfolding items passItem
     one-more {u} {m} {q} h = go (oneItem form s e t p) h
       where
-        go : (g : Got Read) → passed.Done q u m ≡ itemPassed (bind {A = Read} {B = Passed} g (λ r. done (record { item = r .item; total = r .total; used = e + length (r .rows) })))
+        go : (g : Got Read) → passed.Done q u m ≡ itemPassed (bind {A = Read} {B = Counted} g (λ r. done (record { item = r .item; total = r .total; used = e + length (r .rows) })))
             → onto i e (inFront i g (λ r z. items form s k (i + 1) (e + length (r .rows)) (r .total) z)) ≡ onto (i + 1) m (items form s k (i + 1) m u q)
         go (got r z) f =
             let place : z ≡ q = cc in
@@ -90,7 +90,7 @@ module _ (form : Form) (s : List ℕ) where
     unfolding items passItem
     stop {r} h = go (oneItem form s e t p) h
       where
-        go : (g : Got Read) → passed.Refused r ≡ itemPassed (bind {A = Read} {B = Passed} g (λ r. done (record { item = r .item; total = r .total; used = e + length (r .rows) })))
+        go : (g : Got Read) → passed.Refused r ≡ itemPassed (bind {A = Read} {B = Counted} g (λ r. done (record { item = r .item; total = r .total; used = e + length (r .rows) })))
             → onto i e (inFront i g (λ r z. items form s k (i + 1) (e + length (r .rows)) (r .total) z)) ≡ Refused (record { number = r; item = i })
         go (got x z) f = let z : _≡_ {A = ℕ} 0 1 = cc in absurd (omega arith)
         go (refused x) f = let y : x ≡ r = cc in rw y

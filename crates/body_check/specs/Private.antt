@@ -26,7 +26,7 @@ passedOf (got r q) = passed.Done q (r .0) (r .1)
 passedOf (refused r) = passed.Refused r
 
 -- the same of an item, which is forgotten
-abbrev pub itemPassed : Got answers.Passed → Passed
+abbrev pub itemPassed : Got answers.Counted → Passed
 itemPassed (got r q) = passed.Done q (r .total) (r .used)
 itemPassed (refused r) = passed.Refused r
 

@@ -3,7 +3,7 @@
 use mathlib.Core.Path.{_≡_, sym, ap, _∙_}
 use denote.Ref.{now}
 use Rattle.one_answer.specs.OneAnswer.{OneAnswer}
-use Rattle.log_item.specs.Answers.{Passed, headGot, tailGot, itemGot}
+use Rattle.log_item.specs.Answers.{Counted, headGot, tailGot, itemGot}
 use Rattle.log_item.specs.declared.HeadRead.{HeadRead}
 use Rattle.log_item.specs.declared.HeadRead.the-variants as head
 use Rattle.log_item.specs.declared.TailRead.{TailRead}
@@ -48,10 +48,10 @@ tail-same (tail.Refused r) (tail.Refused x) e = cc
 
 item-same : (a b : ItemRead) → itemGot a ≡ itemGot b → a ≡ b
 item-same (item.Done x q u n) (item.Done y z v m) e =
-    let p : _≡_ {A = Passed} (record { item = x; total = u; used = n }) (record { item = y; total = v; used = m }) = cc in
-    let i : x ≡ y = ap (λ (a : Passed). a .item) p in
-    let t : u ≡ v = ap (λ (a : Passed). a .total) p in
-    let k : n ≡ m = ap (λ (a : Passed). a .used) p in
+    let p : _≡_ {A = Counted} (record { item = x; total = u; used = n }) (record { item = y; total = v; used = m }) = cc in
+    let i : x ≡ y = ap (λ (a : Counted). a .item) p in
+    let t : u ≡ v = ap (λ (a : Counted). a .total) p in
+    let k : n ≡ m = ap (λ (a : Counted). a .used) p in
     cc
 item-same (item.Done x q u n) (item.Refused r) e = cc
 item-same (item.Refused r) (item.Done x q u n) e = cc

@@ -26,7 +26,7 @@ use Rattle.log_item.specs.declared.LogItem.{LogItem}
 use Rattle.log_item.specs.Bytes.{spanBytes, commandBytes, opBytes, entriesBytes, contentBytes, headBytes}
 use Rattle.field.specs.Prefix.{inside}
 use Rattle.log_item.specs.Refusing.{opInside, contentInside}
-use Rattle.log_item.specs.Private.{fitted, spanLength, opLength, contentLength, headLength}
+use Rattle.log_item.specs.Private.{fitted, spanLength, opLength, itemContentLength, headLength}
 
 -- The test for room.
 pub past-end : (all at len : ℕ) → all < at → false ≡ leb (at + len) all
@@ -50,8 +50,8 @@ module _ (s : List ℕ) where
       omega (arith, length-append (spanBytes s key) (spanBytes s v), span-length key (i .0), span-length v (i .1))
   op-length key Del h = omega (arith, span-length key h)
 
-  content-length : (k : LogItemContent) → contentInside s k ≡ true → length (contentBytes s k) ≡ contentLength k
-  unfolding contentBytes contentLength
+  content-length : (k : LogItemContent) → contentInside s k ≡ true → length (contentBytes s k) ≡ itemContentLength k
+  unfolding contentBytes itemContentLength
   content-length (contents.EntryIndexes e) h = refl
   content-length (contents.Command c) h = refl
   content-length (contents.Kv k) h = op-length (k .key) (k .op) h
@@ -96,19 +96,19 @@ module _ (key : Span) {op : Op} {a b : ℕ} (p : a ≡ fitted (spanLength key)) 
   del-len e = rw e (omega arith)
 
 module _ {k : LogItemContent} {r : ℕ} where
-  pub entries-content-len : {e : EntryIndexes} → k ≡ contents.EntryIndexes e → r ≡ fitted (length (entriesBytes (e .count) (e .«first_index»))) → r ≡ fitted (contentLength k)
-  unfolding contentLength
+  pub entries-content-len : {e : EntryIndexes} → k ≡ contents.EntryIndexes e → r ≡ fitted (length (entriesBytes (e .count) (e .«first_index»))) → r ≡ fitted (itemContentLength k)
+  unfolding itemContentLength
   entries-content-len p q = rw p q
 
-  pub command-content-len : {c : Command} → k ≡ contents.Command c → r ≡ fitted (length (commandBytes c)) → r ≡ fitted (contentLength k)
-  unfolding contentLength
+  pub command-content-len : {c : Command} → k ≡ contents.Command c → r ≡ fitted (length (commandBytes c)) → r ≡ fitted (itemContentLength k)
+  unfolding itemContentLength
   command-content-len p q = rw p q
 
-  pub key-content-len : {v : KeyValue} → k ≡ contents.Kv v → r ≡ fitted (opLength (v .key) (v .op)) → r ≡ fitted (contentLength k)
-  unfolding contentLength
+  pub key-content-len : {v : KeyValue} → k ≡ contents.Kv v → r ≡ fitted (opLength (v .key) (v .op)) → r ≡ fitted (itemContentLength k)
+  unfolding itemContentLength
   key-content-len p q = rw p q
 
-pub head-len : (x : LogItem) {a b c r : ℕ} → a ≡ length (shortest (x .«raft_group_id»)) → b ≡ fitted (contentLength (x .content)) → c ≡ fitted (1 + b) → r ≡ fitted (a + c)
+pub head-len : (x : LogItem) {a b c r : ℕ} → a ≡ length (shortest (x .«raft_group_id»)) → b ≡ fitted (itemContentLength (x .content)) → c ≡ fitted (1 + b) → r ≡ fitted (a + c)
     → r ≡ fitted (headLength x)
 unfolding headLength
 head-len x p q u v = omega arith

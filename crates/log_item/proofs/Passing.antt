@@ -8,7 +8,7 @@ use lib.ListN.{length}
 use Rattle.field.specs.Got.{Got, got, refused, Reading, done, bind}
 use Rattle.log_item.specs.Entries.{entriesOf}
 use Rattle.log_item.specs.Reading.{Read, head, tail, tails, oneItem}
-use Rattle.log_item.specs.Answers.{Passed, passItem, passTails}
+use Rattle.log_item.specs.Answers.{Counted, passItem, passTails}
 use Rattle.field.specs.declared.Form.{Form}
 use Rattle.log_item.specs.declared.EntryIndex.{EntryIndex}
 use Rattle.log_item.specs.declared.EntryIndexes.{EntryIndexes}
@@ -22,7 +22,7 @@ totalOf (got r q) = got (r .1) q
 totalOf (refused r) = refused r
 
 -- the item x, and n entries with it, where its rows are passed by
-abbrev pub passing : LogItem → ℕ → ℕ → Reading Passed
+abbrev pub passing : LogItem → ℕ → ℕ → Reading Counted
 passing x n u = done (record { item = x; total = u; used = n })
 
 row-ahead : (x : EntryIndex) (g : Got (List EntryIndex × ℕ)) → totalOf (bind g (λ r. done (x ∷ r .0, r .1))) ≡ totalOf g
@@ -96,7 +96,7 @@ module _ (form : Form) (s : List ℕ) where
 
     module _ {x : LogItem} {q : ℕ} (e : head form s used p ≡ got x q) {d : EntryIndexes} (k : d ≡ entriesOf (x .content)) where
       by-rows : (g : Got (List EntryIndex × ℕ)) → Holds (λ r z. length (r .0) ≡ d .count) g
-          → bind {A = Read} {B = Passed} (bind g (λ r. done (record { item = x; rows = r .0; total = r .1 })))
+          → bind {A = Read} {B = Counted} (bind g (λ r. done (record { item = x; rows = r .0; total = r .1 })))
           (λ r. done (record { item = r .item; total = r .total; used = used + length (r .rows) }))
           ≡ bind (totalOf g) (passing x (used + d .count))
       by-rows (got r z) h = rw (only h)

@@ -24,17 +24,17 @@ tailGot (tail.Done u q) = got u q
 tailGot (tail.Refused r) = refused r
 
 -- an item, and the total and the number of entries after it
-pub record Passed : Type 0 where
+pub record Counted : Type 0 where
   pub item : LogItem
   pub total : ℕ
   pub used : ℕ
 
-abbrev pub itemGot : ItemRead → Got Passed
+abbrev pub itemGot : ItemRead → Got Counted
 itemGot (item.Done x q u e) = got (record { item = x; total = u; used = e }) q
 itemGot (item.Refused r) = refused r
 
 -- an item, and the number of entries after it in the place of its rows
-unfoldable pub passItem : Form → List ℕ → ℕ → ℕ → Reading Passed
+unfoldable pub passItem : Form → List ℕ → ℕ → ℕ → Reading Counted
 passItem form s e t = do
   r ← oneItem form s e t
   done (record { item = r .item; total = r .total; used = e + length (r .rows) })

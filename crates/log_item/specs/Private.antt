@@ -69,13 +69,13 @@ unfoldable pub opLength : Span → Op → ℕ
 opLength key (Put v) = 1 + spanLength key + spanLength v
 opLength key Del = 1 + spanLength key
 
-unfoldable pub contentLength : LogItemContent → ℕ
-contentLength (contents.EntryIndexes e) = length (entriesBytes (e .count) (e .«first_index»))
-contentLength (contents.Command c) = length (commandBytes c)
-contentLength (contents.Kv k) = opLength (k .key) (k .op)
+unfoldable pub itemContentLength : LogItemContent → ℕ
+itemContentLength (contents.EntryIndexes e) = length (entriesBytes (e .count) (e .«first_index»))
+itemContentLength (contents.Command c) = length (commandBytes c)
+itemContentLength (contents.Kv k) = opLength (k .key) (k .op)
 
 unfoldable pub headLength : LogItem → ℕ
-headLength x = length (shortest (x .«raft_group_id»)) + (1 + contentLength (x .content))
+headLength x = length (shortest (x .«raft_group_id»)) + (1 + itemContentLength (x .content))
 
 unfoldable pub tailsSize : List ℕ → ℕ → TailsSize
 tailsSize lengths t = cond (ltb 4294967295 (sumOf t lengths)) TooLarge (Fine (fitted (length (tailsBytes lengths t))) (sumOf t lengths))

@@ -3,7 +3,7 @@ ghost use mathlib.Core.Path.{_≡_};
 ghost use Prim.Native.Nat.{_+_};
 ghost use lib.ListN.{length};
 ghost use Rattle.log_item.specs.Bytes.{commandBytes, entriesBytes};
-ghost use Rattle.log_item.specs.Private.{fitted, spanLength, opLength, contentLength, headLength};
+ghost use Rattle.log_item.specs.Private.{fitted, spanLength, opLength, itemContentLength, headLength};
 use crate::Command;
 use crate::EntryIndexes;
 use crate::KeyValue;
@@ -23,7 +23,7 @@ pub(crate) fn head_len(item: LogItem) -> usize
 }
 
 fn content_len(content: LogItemContent) -> usize
-    ensures { λ r. ⌜ r ≡ fitted (contentLength content) ⌝ }
+    ensures { λ r. ⌜ r ≡ fitted (itemContentLength content) ⌝ }
 {
     match content {
         LogItemContent::EntryIndexes(e) => entries_len(e),

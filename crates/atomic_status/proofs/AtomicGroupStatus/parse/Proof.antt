@@ -32,8 +32,8 @@ enum-told-3 c = search needs
 enum-known-op : tie.Need-enum-known-op
 enum-known-op c = search needs
 
-put-status-requires : tie.Need-put-status-requires
-put-status-requires c κs = sym (c .before .before .before .before .lies-in .ensures) ∙ not-false _ (c .before .before .before .if1 .left)
+mark-of-requires : tie.Need-mark-of-requires
+mark-of-requires c κs = sym (c .before .before .before .before .lies-in .ensures) ∙ not-false _ (c .before .before .before .if1 .left)
 
 returns-2 : tie.Need-returns-2
 returns-2 c = status-entries (c .before .before .before .args .item) (now (c .before .before .before .args .store)) (c .enum-told .given .1)
@@ -45,7 +45,7 @@ returns-4 : tie.Need-returns-4
 returns-4 c = status-delete (c .before .before .before .before .before .before .before .before .before .args .item) (now (c .before .before .before .before .before .before .before .before .before .args .store)) (c .before .before .before .before .before .before .content .given .1) (c .before .before .before .lies-in .ensures) (not-false _ (c .before .before .if1 .left)) (c .enum-told3 .given .1)
 
 returns-5 : tie.Need-returns-5
-returns-5 c = status-put (c .before .before .before .before .before .before .before .before .before .before .before .args .item) (now (c .before .before .before .before .before .before .before .before .before .before .before .args .store)) (c .before .before .before .before .before .before .before .before .content .given .1) (c .before .before .before .before .before .lies-in .ensures) (not-false _ (c .before .before .before .before .if1 .left)) (c .before .before .op .given .1) (c .put-status .ensures)
+returns-5 c = status-put (c .before .before .before .before .before .before .before .before .before .before .before .args .item) (now (c .before .before .before .before .before .before .before .before .before .before .before .args .store)) (c .before .before .before .before .before .before .before .before .content .given .1) (c .before .before .before .before .before .lies-in .ensures) (not-false _ (c .before .before .before .before .if1 .left)) (c .before .before .op .given .1) (c .mark-of .ensures)
 
 pub parse-spec : {M : Type 1} → statement M
 parse-spec =
@@ -59,7 +59,7 @@ parse-spec =
     returns
     enum-told-3
     enum-known-op
-    put-status-requires
+    mark-of-requires
     returns-2
     returns-3
     returns-4

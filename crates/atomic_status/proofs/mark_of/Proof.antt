@@ -1,4 +1,4 @@
--- `atomic_status::put_status` meets its contract.
+-- `atomic_status::mark_of` meets its contract.
 -- Assumes nothing.
 use borrow.Author.Tests.{not-true, not-false}
 use denote.Ref.{now}
@@ -6,8 +6,8 @@ use Rattle.field.proofs.Inside.{lies-in}
 use Rattle.atomic_status.proofs.Marks.{put-outside, put-other, put-long, put-mark}
 use native.Mathlib.Omega.{arith}
 use borrow.Author.Needs.{needs}
-use Rattle.atomic_status.proofs.put_status.Statement.{statement}
-use Rattle.atomic_status.proofs.put_status.Tie as tie
+use Rattle.atomic_status.proofs.mark_of.Statement.{statement}
+use Rattle.atomic_status.proofs.mark_of.Tie as tie
 
 lies-in-requires : tie.Need-lies-in-requires
 lies-in-requires c κs = search needs
@@ -36,8 +36,8 @@ status-byte-requires c κs = search needs
 returns-4 : tie.Need-returns-4
 returns-4 c = put-mark (c .before .before .before .before .before .before .before .before .before .args .group) (c .before .before .before .before .before .before .before .before .before .args .key) (c .before .before .before .before .before .before .before .before .before .args .value) (now (c .before .before .before .before .before .before .before .before .before .args .store)) (c .before .before .before .before .before .before .before .lies-in .ensures) (not-false _ (c .before .before .before .before .before .before .if1 .left)) (c .before .before .before .before .before .is-mark .ensures) (not-false _ (c .before .before .before .before .if2 .left)) (c .before .before .if3 .left) (c .status-byte .ensures)
 
-pub put-status-spec : {M : Type 1} → statement M
-put-status-spec =
+pub mark-of-spec : {M : Type 1} → statement M
+mark-of-spec =
     tie.close
     (tie.spec
     lies-in-requires
