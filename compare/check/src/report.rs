@@ -15,6 +15,18 @@ pub struct Row {
     pub library: u64,
 }
 
+impl Row {
+    fn join(&mut self, more: &Row) {
+        self.cases += more.cases;
+        self.accepted += more.accepted;
+        self.refused += more.refused;
+        self.equal += more.equal;
+        self.listed += more.listed;
+        self.unasked += more.unasked;
+        self.library += more.library;
+    }
+}
+
 #[derive(Clone)]
 pub struct Counts {
     pub rows: Vec<Row>,
@@ -59,13 +71,7 @@ impl Counts {
 
     pub fn join(&mut self, other: &Counts) {
         for (row, more) in self.rows.iter_mut().zip(&other.rows) {
-            row.cases += more.cases;
-            row.accepted += more.accepted;
-            row.refused += more.refused;
-            row.equal += more.equal;
-            row.listed += more.listed;
-            row.unasked += more.unasked;
-            row.library += more.library;
+            row.join(more);
         }
         for (count, more) in self.labels.iter_mut().zip(&other.labels) {
             *count += more;
@@ -91,13 +97,7 @@ impl Counts {
         let mut all = Row::default();
         for (name, row) in KINDS.iter().zip(&self.rows) {
             print_row(name, row);
-            all.cases += row.cases;
-            all.accepted += row.accepted;
-            all.refused += row.refused;
-            all.equal += row.equal;
-            all.listed += row.listed;
-            all.unasked += row.unasked;
-            all.library += row.library;
+            all.join(row);
         }
         print_row("all", &all);
         println!("\nrefusals met, by number:");
