@@ -13,7 +13,7 @@ enum-known-gate : tie.Need-enum-known-gate
 enum-known-gate c = search needs
 
 returns : tie.Need-returns
-returns c = search needs
+returns c = ap stopOf (sym (c .enum-told .given .1))
 
 returns-2 : tie.Need-returns-2
 returns-2 c = ap stopOf (sym (c .before .gate .given .1))

@@ -1,0 +1,17 @@
+-- `field::prefix::is_internal_key` meets its contract.
+-- Assumes nothing.
+use borrow.Author.Needs.{needs}
+use Rattle.field.proofs.prefix.is_internal_key.Statement.{statement}
+use Rattle.field.proofs.prefix.is_internal_key.Tie as tie
+
+slice-aggregate-starts-with : tie.Need-slice-aggregate-starts-with
+slice-aggregate-starts-with c = search needs
+
+starts-with-requires : tie.Need-starts-with-requires
+starts-with-requires c κs = search needs
+
+returns : tie.Need-returns
+returns c = c .starts-with .ensures
+
+pub is-internal-key-spec : {M : Type 1} → statement M
+is-internal-key-spec = tie.close (tie.spec slice-aggregate-starts-with starts-with-requires returns)

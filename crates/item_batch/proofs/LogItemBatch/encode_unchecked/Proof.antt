@@ -1,0 +1,17 @@
+-- `item_batch::LogItemBatch::encode_unchecked` meets its contract.
+-- Assumes nothing.
+use borrow.Author.Needs.{needs}
+use Rattle.item_batch.proofs.LogItemBatch.encode_unchecked.Statement.{statement}
+use Rattle.item_batch.proofs.LogItemBatch.encode_unchecked.Tie as tie
+
+encode-requires : tie.Need-encode-requires
+encode-requires c κs = search needs
+
+same-length : tie.Need-same-length
+same-length c = search needs
+
+returns : tie.Need-returns
+returns c = record { answer = c .before .before .encode .ensures .0; written = c .before .before .encode .ensures .1 }
+
+pub encode-unchecked-spec : {M : Type 1} → statement M
+encode-unchecked-spec = tie.close (tie.spec encode-requires same-length returns)
