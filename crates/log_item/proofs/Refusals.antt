@@ -1,6 +1,6 @@
 -- Which refusal each way out of the tests gives, and what holds where there is none.
 -- Assumes nothing.
-use Prim.Native.Nat.{ℕ, zero, suc, _+_, _≤_, _<_}
+use Prim.Native.Nat.{ℕ, zero, suc, _+_, _-_, _≤_, _<_}
 use mathlib.Core.Path.{_≡_, refl, sym, _∙_}
 use mathlib.Core.Bool.{Bool, true, false, cond, _&&_, and-eq-true-iff}
 use mathlib.Core.List.{List}
@@ -49,18 +49,18 @@ module _ (used rows : ℕ) (e : EntryIndexes) where
   unfolding entriesRefusal
   entries-14 h = rw (lt-ltb 1024 (used + e .count) h)
 
-  pub entries-13 : used + e .count ≤ 1024 → rows < used + e .count → 13 ≡ entriesRefusal used rows e
+  pub entries-13 : used + e .count ≤ 1024 → rows - used < e .count → 13 ≡ entriesRefusal used rows e
   unfolding entriesRefusal
-  entries-13 h k = rw (le-ltb 1024 (used + e .count) h, lt-ltb rows (used + e .count) k)
+  entries-13 h k = rw (le-ltb 1024 (used + e .count) h, lt-ltb (rows - used) (e .count) k)
 
-  pub entries-17 : used + e .count ≤ 1024 → used + e .count ≤ rows → e .«first_index» ≤ 18446744073709551615
+  pub entries-17 : used + e .count ≤ 1024 → e .count ≤ rows - used → e .«first_index» ≤ 18446744073709551615
       → 18446744073709551616 < e .«first_index» + e .count → 17 ≡ entriesRefusal used rows e
   unfolding entriesRefusal
-  entries-17 h k b l = rw (le-ltb 1024 (used + e .count) h, le-ltb rows (used + e .count) k) (index-17 (e .count) (e .«first_index») b l)
+  entries-17 h k b l = rw (le-ltb 1024 (used + e .count) h, le-ltb (rows - used) (e .count) k) (index-17 (e .count) (e .«first_index») b l)
 
-  pub entries-fine : used + e .count ≤ 1024 → used + e .count ≤ rows → e .«first_index» + e .count ≤ 18446744073709551616 → 0 ≡ entriesRefusal used rows e
+  pub entries-fine : used + e .count ≤ 1024 → e .count ≤ rows - used → e .«first_index» + e .count ≤ 18446744073709551616 → 0 ≡ entriesRefusal used rows e
   unfolding entriesRefusal
-  entries-fine h k l = rw (le-ltb 1024 (used + e .count) h, le-ltb rows (used + e .count) k) (index-fine (e .count) (e .«first_index») l)
+  entries-fine h k l = rw (le-ltb 1024 (used + e .count) h, le-ltb (rows - used) (e .count) k) (index-fine (e .count) (e .«first_index») l)
 
 pub if-checked : (checked b : Bool) {r : Bool} → checked ≡ true → r ≡ b → r ≡ (checked && b)
 if-checked checked b e h = rw e h
@@ -160,10 +160,10 @@ module _ (s : List ℕ) (checked : Bool) (used rows : ℕ) where
   content-allowed (contents.EntryIndexes e) h =
       let n : ℕ = used + e .count in
       let c : ℕ = indexRefusal (e .count) (e .«first_index») in
-      let a = untaken (ltb 1024 n) 13 (cond (ltb rows n) 13 c) h in
-      let b = untaken (ltb rows n) 12 c (a .1) in
+      let a = untaken (ltb 1024 n) 13 (cond (ltb (rows - used) (e .count)) 13 c) h in
+      let b = untaken (ltb (rows - used) (e .count)) 12 c (a .1) in
       let x = ltb-false _ _ (a .0) in
-      let y = ltb-false _ _ (b .0) in
-      record { few = λ u. x; lent = λ u. y; last = index-allowed (e .count) (e .«first_index») (b .1) }
+      let y = ltb-false (rows - used) (e .count) (b .0) in
+      record { few = λ u. x; lent = λ u. omega arith; last = index-allowed (e .count) (e .«first_index») (b .1) }
   content-allowed (contents.Command c) h = record { few = λ u. omega arith; lent = λ u. omega arith; last = λ u. omega arith }
   content-allowed (contents.Kv k) h = record { few = λ u. omega arith; lent = λ u. omega arith; last = λ u. omega arith }

@@ -1,6 +1,6 @@
 -- Which refusal a writer gives an item, but for 16: the checks in the order of document 01, each with its number; 0 is none.
 -- Assumes nothing.
-use Prim.Native.Nat.{ℕ, zero, suc, _+_}
+use Prim.Native.Nat.{ℕ, zero, suc, _+_, _-_}
 use mathlib.Core.Bool.{Bool, true, cond, _&&_}
 use mathlib.Core.List.{List}
 use lib.Dec.{ltb, leb}
@@ -18,11 +18,11 @@ abbrev pub indexRefusal : ℕ → ℕ → ℕ
 indexRefusal zero i = 0
 indexRefusal (suc n) i = cond (leb (i + n) 18446744073709551615) 0 17
 
--- 14, 13, 17: items before use `used` of the `rows` that are lent
+-- 14, 13, 17: items before use `used` of the `rows` that are lent, and this one needs as many as it counts
 unfoldable pub entriesRefusal : ℕ → ℕ → EntryIndexes → ℕ
 entriesRefusal used rows e =
     cond (ltb 1024 (used + e .count)) 14
-    (cond (ltb rows (used + e .count)) 13
+    (cond (ltb (rows - used) (e .count)) 13
     (indexRefusal (e .count) (e .«first_index»)))
 
 -- the spans of a key lie in the store

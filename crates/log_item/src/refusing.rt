@@ -41,11 +41,11 @@ fn entries_refusal(e: EntryIndexes, used: usize, rows: usize) -> u32
     if 1024 - used < n {
         return refusal::ENTRIES_TOO_MANY;
     }
-    if rows < used + n {
-        return refusal::SPAN_OUTSIDE;
-    }
     if n == 0 {
         return refusal::NONE;
+    }
+    if rows < used + n {
+        return refusal::SPAN_OUTSIDE;
     }
     if u64::MAX - e.first_index < (n - 1) as u64 {
         return refusal::INDEX_TOO_LARGE;

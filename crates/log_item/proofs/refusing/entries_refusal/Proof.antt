@@ -12,14 +12,14 @@ returns c = entries-14 _ _ _ (omega arith)
 returns-2 : tie.Need-returns-2
 returns-2 c = entries-14 _ _ _ (omega arith)
 
-add-if3 : tie.Need-add-if3
-add-if3 c = search needs
-
 returns-3 : tie.Need-returns-3
-returns-3 c = entries-13 _ _ _ (omega arith) (omega arith)
+returns-3 c = entries-fine _ _ _ (omega arith) (omega arith) (omega arith)
+
+add-if4 : tie.Need-add-if4
+add-if4 c = search needs
 
 returns-4 : tie.Need-returns-4
-returns-4 c = entries-fine _ _ _ (omega arith) (omega arith) (omega arith)
+returns-4 c = entries-13 _ _ _ (omega arith) (omega arith)
 
 sub-if5 : tie.Need-sub-if5
 sub-if5 c = search needs
@@ -36,4 +36,4 @@ returns-6 c = entries-fine _ _ _ (omega arith) (omega arith) (omega arith)
 pub entries-refusal-spec : {M : Type 1} → statement M
 entries-refusal-spec =
     tie.close
-    (tie.spec returns returns-2 add-if3 returns-3 returns-4 sub-if5 sub-if5-2 returns-5 returns-6)
+    (tie.spec returns returns-2 returns-3 add-if4 returns-4 sub-if5 sub-if5-2 returns-5 returns-6)
