@@ -4,7 +4,7 @@
 use Prim.Native.Nat.{ℕ, _+_}
 use mathlib.Core.List.{List}
 use lib.ListN.{length}
-use Rattle.field.specs.Got.{Got, got, refused, Reading, done, bind, _>>=_}
+use Rattle.field.specs.Got.{Got, got, refused, Reading, done, _>>=_}
 use Rattle.log_item.specs.Reading.{tails, oneItem}
 use Rattle.field.specs.declared.Form.{Form}
 use Rattle.log_item.specs.declared.LogItem.{LogItem}

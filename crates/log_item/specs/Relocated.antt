@@ -1,4 +1,4 @@
--- An item as it is read back where it was written: places and later indexes are worked out afresh.
+-- An item as it is read back where it was written: places and later indexes are worked out afresh. And the spans and the numbers of a content.
 -- Assumes nothing.
 use Prim.Native.Nat.{ℕ, zero, suc, _+_, _<_, _^_}
 use mathlib.Core.List.{List, [], _∷_}
@@ -6,7 +6,6 @@ use lib.ListN.{length}
 use Rattle.numbers.specs.Shortest.{shortest}
 use Rattle.log_item.specs.Entries.{entriesOf}
 use Rattle.field.specs.declared.Span.{Span}
-use Rattle.log_item.specs.declared.Command.{Command}
 use Rattle.log_item.specs.declared.Command.the-variants.{Clean, Compact}
 use Rattle.log_item.specs.declared.Op.{Op}
 use Rattle.log_item.specs.declared.Op.the-variants.{Put, Del}
