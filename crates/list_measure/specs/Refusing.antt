@@ -1,11 +1,11 @@
 -- Which refusal a writer gives a list of items: the checks in the order of document 01, but for 22 and 21.
 -- Assumes nothing.
-use Prim.Native.Nat.{ℕ, zero, suc, _+_}
+use Prim.Native.Nat.{ℕ, _+_}
 use mathlib.Core.Bool.{Bool, cond}
 use mathlib.Core.List.{List, [], _∷_}
 use lib.Dec.{ltb}
 use lib.ListN.{length, drop}
-use Rattle.refusal.specs.First.{firstOf}
+use Rattle.refusal.specs.First.{firstOf, ifNone}
 use Rattle.log_item.specs.Entries.{entriesOf}
 use Rattle.log_item.specs.declared.LogItem.{LogItem}
 use Rattle.log_item.specs.Refusing.{contentRefusal}
@@ -18,8 +18,7 @@ pub data Verdict : Type 0 where
 
 -- where item k is not refused, what follows it
 abbrev pub unlessItem : ℕ → ℕ → Verdict → Verdict
-unlessItem zero k v = v
-unlessItem (suc r) k v = refused (suc r) k
+unlessItem r k v = ifNone r v (refused r k)
 
 -- the items in order, the first of them with number k: items before use `used` rows, `lengths` are left, the total t runs on
 unfoldable pub itemsVerdict : List ℕ → Bool → List LogItem → List ℕ → ℕ → ℕ → ℕ → Verdict
