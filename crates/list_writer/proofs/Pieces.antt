@@ -19,11 +19,11 @@ use Rattle.crc.specs.Crc.{crcOf}
 use Rattle.log_item.specs.declared.LogItem.{LogItem}
 use Rattle.log_item.specs.Bytes.{headBytes}
 use Rattle.log_item.specs.Refusing.{contentInside}
-use Rattle.log_item.specs.Written.{partWrote}
+use Rattle.log_item.specs.Written.{partWrote, PieceWritten}
 use Rattle.log_item.specs.Private.{Room, Stored}
 use Rattle.log_item.specs.declared.PartWrote.{PartWrote}
 use Rattle.log_item.specs.declared.PartWrote.the-variants as part
-use Rattle.log_item.proofs.Stores.{PartAnswered, none-refused, stored-at}
+use Rattle.log_item.proofs.Stores.{none-refused, stored-at}
 use Rattle.list_writer.specs.Pieces.{headRefusal, headNext, headPlaced, footerOf, footerNext, footerPlaced}
 
 -- ---- an item up to its tails
@@ -37,14 +37,14 @@ same-place zero at next m e = absurd (let z : _≡_ {A = ℕ} 0 1 = cc in omega 
 same-place (suc r) at next m e = refl
 
 module _ (s : List ℕ) (x : LogItem) (out : List ℕ) (at : ℕ) {later : List ℕ} where
-  module _ {w : PartWrote} (p : PartAnswered (contentInside s (x .content)) out at (headBytes s x) w later) where
+  module _ {w : PartWrote} (p : PieceWritten (contentInside s (x .content)) (headBytes s x) out at w later) where
     pub head-next : {n : ℕ} → w ≡ part.Next n → (n ≡ headNext s x (length out) at) × (later ≡ headPlaced s x out at)
     unfolding headNext headPlaced
-    head-next {n} e = (next-place (headRefusal s x (length out) at) at _ n (sym e ∙ p .0), p .1)
+    head-next {n} e = (next-place (headRefusal s x (length out) at) at _ n (sym e ∙ p .answer), p .written)
 
     pub head-place : {m : ℕ} → w ≡ part.Refused m → (at ≡ headNext s x (length out) at) × (later ≡ headPlaced s x out at)
     unfolding headNext headPlaced
-    head-place {m} e = (same-place (headRefusal s x (length out) at) at _ m (sym e ∙ p .0), p .1)
+    head-place {m} e = (same-place (headRefusal s x (length out) at) at _ m (sym e ∙ p .answer), p .written)
 
 -- Where the spans lie in the store and there is room, it is stored.
 pub head-stored : (s : List ℕ) (x : LogItem) {out later : List ℕ} {at next : ℕ} → contentInside s (x .content) ≡ true → Room out at (headBytes s x)

@@ -10,7 +10,7 @@ use Rattle.words.specs.Write.{nextAt, placed}
 use Rattle.log_item.specs.declared.LogItem.{LogItem}
 use Rattle.log_item.specs.Bytes.{headBytes}
 use Rattle.log_item.specs.Refusing.{contentInside}
-use Rattle.log_item.specs.Written.{pieceRefusal, itemPlaced}
+use Rattle.log_item.specs.Written.{pieceRefusal, placedUnless}
 use Rattle.list_writer.specs.Bytes.{footerBytes}
 
 -- an item up to its tails: 13, then 21
@@ -22,7 +22,7 @@ unfoldable pub headNext : List ℕ → LogItem → ℕ → ℕ → ℕ
 headNext s x all at = ifNone (headRefusal s x all at) (at + length (headBytes s x)) at
 
 unfoldable pub headPlaced : List ℕ → LogItem → List ℕ → ℕ → List ℕ
-headPlaced s x out at = itemPlaced (headRefusal s x (length out) at) out at (headBytes s x)
+headPlaced s x out at = placedUnless (headRefusal s x (length out) at) out at (headBytes s x)
 
 -- the footer of what stands from `start` up to `at`
 abbrev pub footerOf : ℕ → ℕ → ℕ → List ℕ → List ℕ

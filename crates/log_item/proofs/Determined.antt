@@ -76,16 +76,16 @@ pub measure : OneAnswer 1 measure-kinds.ps measure-kinds.r measure-reads.Post (�
 measure κs a x y s t p q = p ∙ sym q
 
 pub encode-head : OneAnswer 2 encode-head-kinds.ps encode-head-kinds.r encode-head-reads.Post (λ κs x y s t. (x ≡ y) × (now (s .1 .1 .0) ≡ now (t .1 .1 .0)))
-encode-head κs a x y s t p q = (p .0 ∙ sym (q .0), p .1 ∙ sym (q .1))
+encode-head κs a x y s t p q = (p .answer ∙ sym (q .answer), p .written ∙ sym (q .written))
 
 pub encode-command : OneAnswer 1 encode-command-kinds.ps encode-command-kinds.r encode-command-reads.Post (λ κs x y s t. (x ≡ y) × (now (s .1 .0) ≡ now (t .1 .0)))
-encode-command κs a x y s t p q = (p .0 ∙ sym (q .0), p .1 ∙ sym (q .1))
+encode-command κs a x y s t p q = (p .answer ∙ sym (q .answer), p .written ∙ sym (q .written))
 
 pub encode-key-value : OneAnswer 2 encode-key-value-kinds.ps encode-key-value-kinds.r encode-key-value-reads.Post (λ κs x y s t. (x ≡ y) × (now (s .1 .1 .0) ≡ now (t .1 .1 .0)))
-encode-key-value κs a x y s t p q = (p .0 ∙ sym (q .0), p .1 ∙ sym (q .1))
+encode-key-value κs a x y s t p q = (p .answer ∙ sym (q .answer), p .written ∙ sym (q .written))
 
 pub encode-entry-indexes : OneAnswer 1 encode-entry-indexes-kinds.ps encode-entry-indexes-kinds.r encode-entry-indexes-reads.Post (λ κs x y s t. (x ≡ y) × (now (s .1 .0) ≡ now (t .1 .0)))
-encode-entry-indexes κs a x y s t p q = (p .0 ∙ sym (q .0), p .1 ∙ sym (q .1))
+encode-entry-indexes κs a x y s t p q = (p .answer ∙ sym (q .answer), p .written ∙ sym (q .written))
 
 pub encode-log-item : OneAnswer 3 encode-kinds.ps encode-kinds.r encode-reads.Post (λ κs x y s t. (x ≡ y) × (now (s .1 .1 .1 .1 .0) ≡ now (t .1 .1 .1 .1 .0)))
-encode-log-item κs a x y s t p q = (p .0 ∙ sym (q .0), p .1 ∙ sym (q .1))
+encode-log-item κs a x y s t p q = (p .answer ∙ sym (q .answer), p .written ∙ sym (q .written))

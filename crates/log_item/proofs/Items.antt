@@ -15,26 +15,21 @@ use Rattle.log_item.specs.declared.LogItem.{LogItem}
 use Rattle.log_item.specs.Bytes.{headBytes, tailsBytes}
 use Rattle.log_item.specs.Refusing.{contentInside, contentRefusal}
 use Rattle.refusal.specs.First.{firstOf}
-use Rattle.log_item.specs.Written.{capped, headOf, measureItem, sumOf, rowLengths, itemBytes, itemRefusal, itemWrote, itemPlaced}
+use Rattle.log_item.specs.Written.{capped, measureItem, sumOf, rowLengths, itemBytes, itemRefusal, ItemWritten}
 use Rattle.log_item.specs.Private.{Room, Stored, fitted, headLength, tailsSize}
 use Rattle.log_item.specs.declared.TailsSize.{TailsSize}
 use Rattle.log_item.specs.declared.TailsSize.the-variants.{Fine, TooLarge}
 use Rattle.log_item.specs.declared.Head.the-variants as head
-use Rattle.log_item.specs.declared.ItemWrote.{ItemWrote}
 use Rattle.log_item.specs.declared.ItemWrote.the-variants as item
 use Rattle.log_item.proofs.Stores.{room-first, room-then, room-told, short-told, stored-then}
 use Rattle.log_item.proofs.Lengths.{head-length}
-use Rattle.log_item.proofs.Refusals.{content-inside, content-allowed}
+use Rattle.log_item.proofs.Refusals.{other-answer, content-inside, content-allowed}
 use Rattle.log_item.proofs.Tails.{size-over, size-fine}
-
-refused-head : (n a b : ℕ) → (n ≡ 0 → ⊥) → head.Refused n ≡ headOf n a b
-refused-head zero a b h = absurd (h refl)
-refused-head (suc n) a b h = refl
 
 module _ (s : List ℕ) (checked : Bool) (used rows : ℕ) (x : LogItem) {n : ℕ} (e : n ≡ contentRefusal s checked used rows (x .content)) where
   pub measure-refused : (n ≡ 0 → ⊥) → head.Refused n ≡ measureItem s checked used rows x
   unfolding measureItem
-  measure-refused h = rw (← e) (refused-head n _ _ h)
+  measure-refused h = rw (← e) (other-answer n _ _ h)
 
   pub measure-fine : {d : EntryIndexes} {l m : ℕ} → n ≡ 0 → d ≡ entriesOf (x .content) → l ≡ fitted (headLength x) → m ≡ min l 4294967296
       → head.Fine m (d .count) ≡ measureItem s checked used rows x
@@ -44,26 +39,16 @@ module _ (s : List ℕ) (checked : Bool) (used rows : ℕ) (x : LogItem) {n : �
       let v : m ≡ capped (length (headBytes s x)) = omega (arith, head-length s x i) in
       rw (← e, z, ← v, ← p)
 
-refused-item : (n a b : ℕ) (out : List ℕ) (at : ℕ) (bs : List ℕ) → (n ≡ 0 → ⊥) → (item.Refused n ≡ itemWrote n a b) × (out ≡ itemPlaced n out at bs)
-refused-item zero a b out at bs h = absurd (h refl)
-refused-item (suc n) a b out at bs h = (refl, refl)
-
 first-refused : (n r : ℕ) → (n ≡ 0 → ⊥) → firstOf n r ≡ n
 first-refused zero r h = absurd (h refl)
 first-refused (suc n) r h = refl
 
--- the answer of `encode`, and what it leaves in the buffer
-abbrev pub Answered : List ℕ → LogItem → List ℕ → ℕ → List ℕ → ℕ → ItemWrote → List ℕ → Type 0
-Answered s x lengths t out at r later =
-    (r ≡ itemWrote (itemRefusal s x lengths t out at) (at + length (itemBytes s x lengths t)) (sumOf t (rowLengths x lengths)))
-    × (later ≡ itemPlaced (itemRefusal s x lengths t out at) out at (itemBytes s x lengths t))
-
 module _ (s : List ℕ) (x : LogItem) (lengths : List ℕ) (t : ℕ) (out : List ℕ) (at : ℕ) where
-  refuses : (n : ℕ) → itemRefusal s x lengths t out at ≡ n → (n ≡ 0 → ⊥) → Answered s x lengths t out at (item.Refused n) out
-  refuses n e h = rw e (refused-item n _ _ out at _ h)
+  refuses : (n : ℕ) → itemRefusal s x lengths t out at ≡ n → (n ≡ 0 → ⊥) → ItemWritten s x lengths t out at (item.Refused n) out
+  refuses n e h = record { answer = rw e (other-answer n _ _ h); written = rw e (other-answer n _ _ h) }
 
   module _ {n : ℕ} (e : n ≡ contentRefusal s false 0 (length lengths) (x .content)) where
-    pub encode-refused : (n ≡ 0 → ⊥) → Answered s x lengths t out at (item.Refused n) out
+    pub encode-refused : (n ≡ 0 → ⊥) → ItemWritten s x lengths t out at (item.Refused n) out
     unfolding itemRefusal
     encode-refused h = refuses n (rw (← e) (first-refused n _ h)) h
 
@@ -78,7 +63,7 @@ module _ (s : List ℕ) (x : LogItem) (lengths : List ℕ) (t : ℕ) (out : List
       rows-lent = rw p (omega (arith, content-allowed s false 0 (length lengths) (x .content) (sym e ∙ z) .lent (omega arith)))
 
       module _ {r : TailsSize} (q : r ≡ tailsSize (take (d .count) lengths) t) where
-        pub encode-over : r ≡ TooLarge → Answered s x lengths t out at (item.Refused 16) out
+        pub encode-over : r ≡ TooLarge → ItemWritten s x lengths t out at (item.Refused 16) out
         unfolding itemRefusal
         encode-over h = let k = rw rows at (size-over _ t q h) in refuses 16 (rw (← e, z, lt-ltb _ _ k)) (λ k. omega arith)
 
@@ -94,7 +79,7 @@ module _ (s : List ℕ) (x : LogItem) (lengths : List ℕ) (t : ℕ) (out : List
           fit : b ≡ fitted (headLength x + length (tailsBytes (rowLengths x lengths) t))
           fit = omega (arith, sized .1)
 
-          pub encode-short : g ≡ false → Answered s x lengths t out at (item.Refused 21) out
+          pub encode-short : g ≡ false → ItemWritten s x lengths t out at (item.Refused 21) out
           unfolding itemRefusal
           encode-short h =
               let k = short-told out (itemBytes s x lengths t) at small long fit w h in
@@ -114,11 +99,14 @@ module _ (s : List ℕ) (x : LogItem) (lengths : List ℕ) (t : ℕ) (out : List
               tails-ready = (rows-lent, rw rows (sized .0), rw rows (room-then _ y room))
 
               pub encode-done : {k : ℕ} {later : List ℕ} → Stored mid m (tailsBytes (take (d .count) lengths) t) k later
-                  → Answered s x lengths t out at (item.Next k total) later
+                  → ItemWritten s x lengths t out at (item.Next k total) later
               unfolding itemRefusal itemBytes
               encode-done {k} {later} y' =
                   let full : Stored out at (itemBytes s x lengths t) k later = stored-then y (rw rows at y') in
                   let none : itemRefusal s x lengths t out at ≡ 0 = rw (← e, z, le-ltb _ _ (sized .0), le-leb _ _ (room .fits)) in
                   let i = full .after in
                   let j = sized .2 in
-                  rw none (cc, room-for out at (itemBytes s x lengths t) later k (room .fits) (full .stored, full .after) .1)
+                  record {
+                    answer = rw none cc;
+                    written = rw none (room-for out at (itemBytes s x lengths t) later k (room .fits) (full .stored, full .after) .1);
+                  }

@@ -1,6 +1,6 @@
 -- Runs of stores, one after the other, and what a function that tests for room answers.
 -- Assumes nothing.
-use Prim.Native.Nat.{ℕ, zero, suc, _+_, _≤_, _<_}
+use Prim.Native.Nat.{ℕ, suc, _+_, _≤_, _<_}
 use mathlib.Core.Path.{_≡_, refl, sym, ap, _∙_}
 use mathlib.Core.Bool.{Bool, true, false}
 use mathlib.Core.List.{List, [], _∷_, _++_}
@@ -13,11 +13,10 @@ use Rattle.words.specs.Write.{wroteAt, nextAt, placed}
 use Rattle.words.specs.declared.Wrote.{Wrote}
 use Rattle.words.specs.declared.Wrote.the-variants.{Next, NoRoom}
 use Rattle.words.proofs.Writing.{room-for}
-use Rattle.log_item.specs.declared.PartWrote.{PartWrote}
 use Rattle.log_item.specs.declared.PartWrote.the-variants as part
-use Rattle.log_item.specs.Written.{pieceRefusal, partWrote, itemPlaced}
+use Rattle.log_item.specs.Written.{pieceRefusal, PieceWritten}
 use Rattle.log_item.specs.Private.{Room, Stored, fitted}
-use Rattle.log_item.proofs.Refusals.{taken, all-inside}
+use Rattle.log_item.proofs.Refusals.{taken, other-answer, all-inside}
 
 sets-append : (bs cs out : List ℕ) (at : ℕ) → sets out at (bs ++ cs) ≡ sets (sets out at bs) (at + length bs) cs
 sets-append [] cs out at = let e : at ≡ at + 0 = omega arith in ap (λ (k : ℕ). sets out k cs) e
@@ -84,19 +83,12 @@ module _ (out bs : List ℕ) (at : ℕ) {n l : ℕ} {r : Bool} (small : length o
   pub short-told : r ≡ false → length out < at + length bs
   short-told h = let k : length out < at + l = leb-false _ _ (sym t ∙ h) in omega arith
 
--- The answers of a function that tests first whether spans lie in the store and whether bytes fit.
-abbrev pub PartAnswered : Bool → List ℕ → ℕ → List ℕ → PartWrote → List ℕ → Type 0
-PartAnswered b out at bs r later = (r ≡ partWrote (pieceRefusal b at (length bs) (length out)) (at + length bs)) × (later ≡ itemPlaced (pieceRefusal b at (length bs) (length out)) out at bs)
-
-refused-part : (r next : ℕ) (out : List ℕ) (at : ℕ) (bs : List ℕ) → (r ≡ 0 → ⊥) → (part.Refused r ≡ partWrote r next) × (out ≡ itemPlaced r out at bs)
-refused-part zero next out at bs h = absurd (h refl)
-refused-part (suc r) next out at bs h = (refl, refl)
-
 -- Bytes for which there is room are not refused.
 pub none-refused : {b : Bool} {out bs : List ℕ} {at : ℕ} → b ≡ true → Room out at bs → pieceRefusal b at (length bs) (length out) ≡ 0
 unfolding pieceRefusal
 none-refused i h = rw (i, le-leb _ _ (h .fits))
 
+-- The answers of a function that tests first whether spans lie in the store and whether bytes fit.
 module _ (b : Bool) (out bs : List ℕ) (at : ℕ) {d : Bool} {n l r : ℕ} (small : length out < 18446744073709551615) (e : b ≡ true → length bs ≡ n) (same : d ≡ b)
     (g : l ≡ fitted n) (t : r ≡ pieceRefusal d at l (length out)) where
   same-refusal : r ≡ pieceRefusal b at (length bs) (length out)
@@ -111,8 +103,8 @@ module _ (b : Bool) (out bs : List ℕ) (at : ℕ) {d : Bool} {n l r : ℕ} (sma
       go true f = rw (told (f refl) (leb (at + l) (length out)) refl)
       go false f = refl
 
-  pub piece-refused : (r ≡ 0 → ⊥) → PartAnswered b out at bs (part.Refused r) out
-  piece-refused h = rw (← same-refusal) (refused-part r _ out at bs h)
+  pub piece-refused : (r ≡ 0 → ⊥) → PieceWritten b bs out at (part.Refused r) out
+  piece-refused h = record { answer = rw (← same-refusal) (other-answer r _ _ h); written = rw (← same-refusal) (other-answer r _ _ h) }
 
   module _ (z : r ≡ 0) where
     pub piece-ready : (b ≡ true) × Room out at bs
@@ -121,7 +113,7 @@ module _ (b : Bool) (out bs : List ℕ) (at : ℕ) {d : Bool} {n l r : ℕ} (sma
         let p = all-inside b _ (sym same-refusal ∙ z) in
         (p .0, record { fits = leb-true _ _ (taken (leb (at + length bs) (length out)) 20 0 (p .1) .0) })
 
-    pub piece-stored : {next : ℕ} {later : List ℕ} → Stored out at bs next later → PartAnswered b out at bs (part.Next next) later
+    pub piece-stored : {next : ℕ} {later : List ℕ} → Stored out at bs next later → PieceWritten b bs out at (part.Next next) later
     piece-stored {next} {later} w =
         let p = room-for out at bs later next (piece-ready .1 .fits) (w .stored, w .after) in
-        rw (← same-refusal, z) (ap part.Next (w .after), p .1)
+        record { answer = rw (← same-refusal, z) (ap part.Next (w .after)); written = rw (← same-refusal, z) (p .1) }

@@ -1,11 +1,12 @@
 -- What the writers of items answer, and what they leave in the buffer.
 -- Assumes nothing.
-use Prim.Native.Nat.{ℕ, zero, suc, _+_, min}
+use Prim.Native.Nat.{ℕ, _+_, min}
+use mathlib.Core.Path.{_≡_}
 use mathlib.Core.Bool.{Bool, false, cond}
 use mathlib.Core.List.{List, [], _∷_, _++_}
 use lib.Dec.{ltb, leb}
 use lib.ListN.{length, take}
-use Rattle.refusal.specs.First.{firstOf}
+use Rattle.refusal.specs.First.{firstOf, ifNone}
 use Rattle.words.specs.Write.{placed}
 use Rattle.log_item.specs.Entries.{entriesOf}
 use Rattle.log_item.specs.declared.LogItem.{LogItem}
@@ -23,8 +24,7 @@ abbrev pub capped : ℕ → ℕ
 capped n = min n 4294967296
 
 abbrev pub headOf : ℕ → ℕ → ℕ → Head
-headOf zero len count = head.Fine len count
-headOf (suc r) len count = head.Refused (suc r)
+headOf r len count = ifNone r (head.Fine len count) (head.Refused r)
 
 -- the first refusal of an item but 16, or its length up to its tails and how many rows it uses
 unfoldable pub measureItem : List ℕ → Bool → ℕ → ℕ → LogItem → Head
@@ -41,8 +41,16 @@ pieceRefusal lies at n all = firstOf (spanRefusal lies) (roomRefusal at n all)
 
 -- the place after the piece, or the refusal
 abbrev pub partWrote : ℕ → ℕ → PartWrote
-partWrote zero next = part.Next next
-partWrote (suc r) next = part.Refused (suc r)
+partWrote r next = ifNone r (part.Next next) (part.Refused r)
+
+-- the buffer with the bytes at the place; nothing is written where there is a refusal
+abbrev pub placedUnless : ℕ → List ℕ → ℕ → List ℕ → List ℕ
+placedUnless r out at bs = ifNone r (placed out at bs) out
+
+-- the answer r to the writing of a piece's bytes at the place `at`, and the later contents of out
+pub record PieceWritten (lies : Bool) (bytes out : List ℕ) (at : ℕ) (r : PartWrote) (later : List ℕ) : Type 0 where
+  pub answer : r ≡ partWrote (pieceRefusal lies at (length bytes) (length out)) (at + length bytes)
+  pub written : later ≡ placedUnless (pieceRefusal lies at (length bytes) (length out)) out at bytes
 
 -- the sum of lengths behind a total
 unfoldable pub sumOf : ℕ → List ℕ → ℕ
@@ -57,7 +65,7 @@ rowLengths x lengths = take (entriesOf (x .content) .count) lengths
 unfoldable pub itemBytes : List ℕ → LogItem → List ℕ → ℕ → List ℕ
 itemBytes s x lengths t = headBytes s x ++ tailsBytes (rowLengths x lengths) t
 
--- 16 where a tail is above 4,294,967,295: no tail is below the one before it, so where the last is, the total after the item
+-- 16 where a tail is above 4,294,967,295. No tail is below the one before it, so that is where the last one is, which is the total after the item.
 abbrev pub tailRefusal : LogItem → List ℕ → ℕ → ℕ
 tailRefusal x lengths t = cond (ltb 4294967295 (sumOf t (rowLengths x lengths))) 16 0
 
@@ -70,10 +78,9 @@ itemRefusal s x lengths t out at =
 
 -- the place after the item and the total after it, or the refusal
 abbrev pub itemWrote : ℕ → ℕ → ℕ → ItemWrote
-itemWrote zero next total = item.Next next total
-itemWrote (suc r) next total = item.Refused (suc r)
+itemWrote r next total = ifNone r (item.Next next total) (item.Refused r)
 
--- the buffer with the bytes at the place; nothing is written where there is a refusal
-abbrev pub itemPlaced : ℕ → List ℕ → ℕ → List ℕ → List ℕ
-itemPlaced zero out at bs = placed out at bs
-itemPlaced (suc r) out at bs = out
+-- the same of an item with its tails
+pub record ItemWritten (s : List ℕ) (x : LogItem) (lengths : List ℕ) (t : ℕ) (out : List ℕ) (at : ℕ) (r : ItemWrote) (later : List ℕ) : Type 0 where
+  pub answer : r ≡ itemWrote (itemRefusal s x lengths t out at) (at + length (itemBytes s x lengths t)) (sumOf t (rowLengths x lengths))
+  pub written : later ≡ placedUnless (itemRefusal s x lengths t out at) out at (itemBytes s x lengths t)

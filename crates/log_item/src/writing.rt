@@ -4,14 +4,14 @@
 ghost use mathlib.Core.Path.{_≡_};
 ghost use mathlib.Core.Bool.{true};
 ghost use mathlib.Core.List.{[], _∷_};
-ghost use Prim.Native.Nat.{_+_, _≤_};
+ghost use Prim.Native.Nat.{_≤_};
 ghost use lib.ListN.{length, take};
 ghost use Rattle.log_item.specs.Entries.{typeOf};
 ghost use Rattle.field.specs.Prefix.{bytesOf};
 ghost use Rattle.log_item.specs.Bytes.{spanBytes, commandBytes, entriesBytes, opBytes, contentBytes, headBytes, tailsBytes};
 ghost use Rattle.field.specs.Prefix.{inside};
 ghost use Rattle.log_item.specs.Refusing.{opInside, contentInside};
-ghost use Rattle.log_item.specs.Written.{measureItem, pieceRefusal, partWrote, itemBytes, itemRefusal, itemWrote, itemPlaced, sumOf, rowLengths};
+ghost use Rattle.log_item.specs.Written.{measureItem, PieceWritten, ItemWritten, sumOf};
 ghost use Rattle.log_item.specs.Private.{Room, Stored, tailsSize};
 use crate::Command;
 use crate::EntryIndexes;
@@ -55,7 +55,7 @@ impl LogItem {
 
     // Writes an item up to its tails at a place of out: 13, then 21. Put keys are not looked at (no 23), nor are rows of entries.
     pub fn encode_head(item: LogItem, store: &[u8], out: &mut [u8], at: usize) -> PartWrote
-        ensures { λ r. ⌜ (r ≡ partWrote (pieceRefusal (contentInside (now (store .entry)) (item .content)) at (length (headBytes (now (store .entry)) item)) (length (now (out .entry)))) (at + length (headBytes (now (store .entry)) item))) × (now (out .exit) ≡ itemPlaced (pieceRefusal (contentInside (now (store .entry)) (item .content)) at (length (headBytes (now (store .entry)) item)) (length (now (out .entry)))) (now (out .entry)) at (headBytes (now (store .entry)) item)) ⌝ }
+        ensures { λ r. ⌜ PieceWritten (contentInside (now (store .entry)) (item .content)) (headBytes (now (store .entry)) item) (now (out .entry)) at r (now (out .exit)) ⌝ }
     {
         let content = item.content;
         let lies = content_inside(content, store);
@@ -76,7 +76,7 @@ impl LogItem {
         out: &mut [u8],
         at: usize,
     ) -> ItemWrote
-        ensures { λ r. ⌜ (r ≡ itemWrote (itemRefusal (now (store .entry)) item (now (lengths .entry)) total (now (out .entry)) at) (at + length (itemBytes (now (store .entry)) item (now (lengths .entry)) total)) (sumOf total (rowLengths item (now (lengths .entry))))) × (now (out .exit) ≡ itemPlaced (itemRefusal (now (store .entry)) item (now (lengths .entry)) total (now (out .entry)) at) (now (out .entry)) at (itemBytes (now (store .entry)) item (now (lengths .entry)) total)) ⌝ }
+        ensures { λ r. ⌜ ItemWritten (now (store .entry)) item (now (lengths .entry)) total (now (out .entry)) at r (now (out .exit)) ⌝ }
     {
         let content = item.content;
         let number = content_refusal(content, store, false, 0, lengths.len());
@@ -102,7 +102,7 @@ impl LogItem {
 impl EntryIndexes {
     // Writes a count of entries, and their first index where there are any, at a place of out, or 21.
     pub fn encode(e: EntryIndexes, out: &mut [u8], at: usize) -> PartWrote
-        ensures { λ r. ⌜ (r ≡ partWrote (pieceRefusal true at (length (entriesBytes (e .count) (e .«first_index»))) (length (now (out .entry)))) (at + length (entriesBytes (e .count) (e .«first_index»)))) × (now (out .exit) ≡ itemPlaced (pieceRefusal true at (length (entriesBytes (e .count) (e .«first_index»))) (length (now (out .entry)))) (now (out .entry)) at (entriesBytes (e .count) (e .«first_index»))) ⌝ }
+        ensures { λ r. ⌜ PieceWritten true (entriesBytes (e .count) (e .«first_index»)) (now (out .entry)) at r (now (out .exit)) ⌝ }
     {
         let number = piece_refusal(true, out.len(), at, entries_len(e));
         if number != refusal::NONE {
@@ -115,7 +115,7 @@ impl EntryIndexes {
 impl Command {
     // Writes a command at a place of out, or 21.
     pub fn encode(c: Command, out: &mut [u8], at: usize) -> PartWrote
-        ensures { λ r. ⌜ (r ≡ partWrote (pieceRefusal true at (length (commandBytes c)) (length (now (out .entry)))) (at + length (commandBytes c))) × (now (out .exit) ≡ itemPlaced (pieceRefusal true at (length (commandBytes c)) (length (now (out .entry)))) (now (out .entry)) at (commandBytes c)) ⌝ }
+        ensures { λ r. ⌜ PieceWritten true (commandBytes c) (now (out .entry)) at r (now (out .exit)) ⌝ }
     {
         let number = piece_refusal(true, out.len(), at, command_len(c));
         if number != refusal::NONE {
@@ -128,7 +128,7 @@ impl Command {
 impl KeyValue {
     // Writes an op, its key and the content of a put at a place of out: 13, then 21.
     pub fn encode(kv: KeyValue, store: &[u8], out: &mut [u8], at: usize) -> PartWrote
-        ensures { λ r. ⌜ (r ≡ partWrote (pieceRefusal (opInside (now (store .entry)) (kv .key) (kv .op)) at (length (opBytes (now (store .entry)) (kv .key) (kv .op))) (length (now (out .entry)))) (at + length (opBytes (now (store .entry)) (kv .key) (kv .op)))) × (now (out .exit) ≡ itemPlaced (pieceRefusal (opInside (now (store .entry)) (kv .key) (kv .op)) at (length (opBytes (now (store .entry)) (kv .key) (kv .op))) (length (now (out .entry)))) (now (out .entry)) at (opBytes (now (store .entry)) (kv .key) (kv .op))) ⌝ }
+        ensures { λ r. ⌜ PieceWritten (opInside (now (store .entry)) (kv .key) (kv .op)) (opBytes (now (store .entry)) (kv .key) (kv .op)) (now (out .entry)) at r (now (out .exit)) ⌝ }
     {
         let lies = op_inside(kv, store);
         let number = piece_refusal(lies, out.len(), at, op_len(kv));
