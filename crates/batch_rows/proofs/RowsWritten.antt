@@ -11,7 +11,7 @@ use borrow.Author.Tests.{eqb-true, eqb-false}
 use Rattle.list_measure.specs.declared.Measured.{Measured}
 use Rattle.list_writer.specs.declared.Encoded.{Encoded}
 use Rattle.list_measure.specs.Answers.{measureOf}
-use Rattle.list_writer.specs.Answers.{encodedOf, laid}
+use Rattle.list_writer.specs.Answers.{MeasuredWritten}
 use Rattle.rows_writer.specs.Rows.{itemRowCount, rowItems, entryLengths, measureRows, rowsBytes}
 use Rattle.rows_writer.proofs.RowsMeasuring.{rows-accepted}
 use Rattle.batch_front.specs.Front.{batchEncoded, FrontWritten}
@@ -50,12 +50,11 @@ module _ (s : List ℕ) (checked : Bool) (items entries : List ℕ) {m : Measure
       rows-behind = body-behind begun rows-small h
 
       pub rows-stored : (signature : ℕ) {later : List ℕ} {x : Encoded}
-          → (x ≡ encodedOf (measureRows s checked items entries) mid (r .length - m .length))
-          × (later ≡ laid x mid (r .length - m .length) (rowsBytes s items entries signature))
+          → MeasuredWritten (measureRows s checked items entries) (rowsBytes s items entries signature) mid (r .length - m .length) x later
           → RowsWritten checked items entries s content signature out r later
       rows-stored signature p =
           let e : measureRows s checked items entries ≡ measureOf s checked (rowItems items) (entryLengths entries) = sym same ∙ each .1 in
           let w =
           batch-stored s checked (rowItems items) (entryLengths entries) content out (each .1) (each .0) begun h signature
-          (p .0 ∙ ap (λ (x : Measured). encodedOf x mid (r .length - m .length)) e, p .1) in
+          (rw e at p) in
           record { answer = answers; written = w .written }

@@ -1,8 +1,6 @@
 -- No second answer: two results, and two later contents of a lent buffer, that meet one contract are equal.
 -- Assumes nothing.
-use mathlib.Core.Path.{_≡_, sym, ap, _∙_}
-use Prim.Native.Nat.{ℕ}
-use mathlib.Core.List.{List}
+use mathlib.Core.Path.{_≡_, sym, _∙_}
 use denote.Ref.{now}
 use Rattle.one_answer.specs.OneAnswer.{OneAnswer}
 use Rattle.item_batch.proofs.LogItemBatch.empty.Kinds as empty-kinds
@@ -11,16 +9,11 @@ use Rattle.item_batch.proofs.read_items.Kinds as read-items-kinds
 use Rattle.item_batch.proofs.read_items.Reads as read-items-reads
 use Rattle.item_batch.proofs.LogItemBatch.decode.Kinds as decode-kinds
 use Rattle.item_batch.proofs.LogItemBatch.decode.Reads as decode-reads
-use Rattle.list_writer.specs.Answers.{laid}
-use Rattle.list_writer.specs.declared.Encoded.{Encoded}
+use Rattle.list_writer.proofs.Determined.{written-once}
 use Rattle.item_batch.proofs.LogItemBatch.encode.Kinds as encode-kinds
 use Rattle.item_batch.proofs.LogItemBatch.encode.Reads as encode-reads
 use Rattle.item_batch.proofs.LogItemBatch.encode_unchecked.Kinds as encode-unchecked-kinds
 use Rattle.item_batch.proofs.LogItemBatch.encode_unchecked.Reads as encode-unchecked-reads
-
--- the same answer leaves the same bytes
-same-later : {x y : Encoded} (out bs : List ℕ) {later other : List ℕ} → x ≡ y → later ≡ laid x out 0 bs → other ≡ laid y out 0 bs → later ≡ other
-same-later out bs e p q = p ∙ ap (λ (r : Encoded). laid r out 0 bs) e ∙ sym q
 
 pub empty : OneAnswer 0 empty-kinds.ps empty-kinds.r empty-reads.Post (λ κs x y s t. x ≡ y)
 empty κs a x y s t p q = p ∙ sym q
@@ -32,11 +25,7 @@ pub decode : OneAnswer 1 decode-kinds.ps decode-kinds.r decode-reads.Post (λ κ
 decode κs a x y s t p q = p ∙ sym q
 
 pub encode : OneAnswer 2 encode-kinds.ps encode-kinds.r encode-reads.Post (λ κs x y s t. (x ≡ y) × (now (s .1 .1 .1 .0) ≡ now (t .1 .1 .1 .0)))
-encode κs a x y s t p q =
-    let same : x ≡ y = p .answer ∙ sym (q .answer) in
-    (same, same-later _ _ same (p .written) (q .written))
+encode κs a x y s t p q = written-once p q
 
 pub encode-unchecked : OneAnswer 2 encode-unchecked-kinds.ps encode-unchecked-kinds.r encode-unchecked-reads.Post (λ κs x y s t. (x ≡ y) × (now (s .1 .1 .1 .0) ≡ now (t .1 .1 .1 .0)))
-encode-unchecked κs a x y s t p q =
-    let same : x ≡ y = p .answer ∙ sym (q .answer) in
-    (same, same-later _ _ same (p .written) (q .written))
+encode-unchecked κs a x y s t p q = written-once p q

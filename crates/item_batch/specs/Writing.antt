@@ -1,7 +1,6 @@
 -- What writing a table's items as a body answers, what it leaves in the buffer, and the list that is read back.
 -- Assumes nothing.
 use Prim.Native.Nat.{ℕ, _+_}
-use mathlib.Core.Path.{_≡_}
 use mathlib.Core.Bool.{Bool}
 use mathlib.Core.List.{List, [], _∷_, _++_, map}
 use lib.ListN.{length, drop}
@@ -17,7 +16,7 @@ use Rattle.list_writer.specs.declared.Encoded.{Encoded}
 use Rattle.list_measure.specs.Bytes.{itemsOf, lengthsOf}
 use Rattle.list_writer.specs.Bytes.{bodyBytes}
 use Rattle.list_measure.specs.Answers.{measureOf}
-use Rattle.list_writer.specs.Answers.{encodedOf, laid}
+use Rattle.list_writer.specs.Answers.{MeasuredWritten}
 use Rattle.item_batch.specs.declared.LogItemBatch.{LogItemBatch}
 
 -- the items of a table, and the lengths of its entry rows
@@ -28,9 +27,9 @@ abbrev pub tableLengths : LogItemBatch → List ℕ
 tableLengths t = lengthsOf (t .entries) (t .«entry_count»)
 
 -- the answer r and the later contents of out: the body's bytes, then what stood there; out as it was where the body is refused
-pub record BodyWritten (checked : Bool) (t : LogItemBatch) (store : List ℕ) (signature : ℕ) (out : List ℕ) (r : Encoded) (later : List ℕ) : Type 0 where
-  pub answer : r ≡ encodedOf (measureOf store checked (listed t) (tableLengths t)) out 0
-  pub written : later ≡ laid r out 0 (bodyBytes store (listed t) (tableLengths t) signature)
+abbrev pub BodyWritten : Bool → LogItemBatch → List ℕ → ℕ → List ℕ → Encoded → List ℕ → Type 0
+BodyWritten checked t store signature out r later =
+    MeasuredWritten (measureOf store checked (listed t) (tableLengths t)) (bodyBytes store (listed t) (tableLengths t) signature) out 0 r later
 
 -- the items that are written from the place p on, each with its places worked out afresh: it stands where the one before ended
 unfoldable pub itemsAt : List ℕ → List LogItem → List ℕ → ℕ → ℕ → List LogItem

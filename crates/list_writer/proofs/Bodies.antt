@@ -24,7 +24,7 @@ use Rattle.list_measure.specs.Bytes.{itemsBytes, listBytes}
 use Rattle.list_writer.specs.Bytes.{footed, bodyBytes}
 use Rattle.list_measure.specs.Refusing.{Verdict, fine, refused, itemsVerdict, listVerdict}
 use Rattle.list_measure.specs.Answers.{measured, measuredOf, measureOf}
-use Rattle.list_writer.specs.Answers.{encoded, encodedIn, encodedOf, laid}
+use Rattle.list_writer.specs.Answers.{encoded, encodedIn, encodedOf, laid, MeasuredWritten}
 use Rattle.list_writer.specs.Pieces.{footerOf, footerNext, footerPlaced}
 use Rattle.list_writer.proofs.Pieces.{footer-stored}
 use Rattle.list_measure.proofs.Heads.{cond-fine}
@@ -157,13 +157,16 @@ module _ (e : Measured) (out : List ℕ) (at : ℕ) (bs : List ℕ) {m : Measure
   unfolding encodedOf
   answered = p ∙ ap (λ (x : Measured). encodedIn x (length out) at) same
 
-  pub none-written : r .length ≡ 0 → (r ≡ encodedOf e out at) × (out ≡ laid r out at bs)
+  pub none-written : r .length ≡ 0 → MeasuredWritten e bs out at r out
   unfolding laid
-  none-written h = (answered, rw (eq-eqb (r .length) 0 h))
+  none-written h = record { answer = answered; written = rw (eq-eqb (r .length) 0 h) }
 
   pub all-written : {later : List ℕ} {next : ℕ} → (r .length ≡ 0 → ⊥) → length bs ≡ m .length → Stored out at bs next later
-      → (r ≡ encodedOf e out at) × (later ≡ laid r out at bs)
+      → MeasuredWritten e bs out at r later
   unfolding laid
   all-written {later} {next} h k w =
       let fit : at + length bs ≤ length out = omega (arith, fits same (length out) at p h .1) in
-      (answered, w .stored ∙ sets-eq bs out at fit ∙ (rw (ne-eqb (r .length) 0 h, le-leb (at + length bs) (length out) fit)))
+      record {
+        answer = answered;
+        written = w .stored ∙ sets-eq bs out at fit ∙ (rw (ne-eqb (r .length) 0 h, le-leb (at + length bs) (length out) fit));
+      }

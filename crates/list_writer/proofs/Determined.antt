@@ -1,8 +1,13 @@
 -- No second answer: two results that meet one contract are equal, and so are the buffers that they leave.
 -- Assumes nothing.
+use Prim.Native.Nat.{ℕ}
 use mathlib.Core.Path.{_≡_, sym, _∙_}
+use mathlib.Core.List.{List}
 use denote.Ref.{now}
 use Rattle.one_answer.specs.OneAnswer.{OneAnswer}
+use Rattle.list_measure.specs.declared.Measured.{Measured}
+use Rattle.list_writer.specs.declared.Encoded.{Encoded}
+use Rattle.list_writer.specs.Answers.{MeasuredWritten}
 use Rattle.list_writer.proofs.encode.Kinds as encode-kinds
 use Rattle.list_writer.proofs.encode.Reads as encode-reads
 use Rattle.list_writer.proofs.placing.Kinds as placing-kinds
@@ -14,8 +19,13 @@ use Rattle.list_writer.proofs.write_head.Reads as write-head-reads
 use Rattle.list_writer.proofs.write_footer.Kinds as write-footer-kinds
 use Rattle.list_writer.proofs.write_footer.Reads as write-footer-reads
 
+-- A measured body has one answer, and leaves one buffer.
+pub written-once : {m : Measured} {bytes out : List ℕ} {at : ℕ} {x y : Encoded} {later other : List ℕ} → MeasuredWritten m bytes out at x later
+    → MeasuredWritten m bytes out at y other → (x ≡ y) × (later ≡ other)
+written-once {x = x} {y = y} p q = let e : x ≡ y = p .answer ∙ sym (q .answer) in (e, p .written ∙ (rw e (sym (q .written))))
+
 pub encode : OneAnswer 2 encode-kinds.ps encode-kinds.r encode-reads.Post (λ κs x y s t. (x ≡ y) × (now (s .1 .1 .1 .1 .1 .1 .1 .0) ≡ now (t .1 .1 .1 .1 .1 .1 .1 .0)))
-encode κs a x y s t p q = let e : x ≡ y = p .0 ∙ sym (q .0) in (e, p .1 ∙ (rw e (sym (q .1))))
+encode κs a x y s t p q = written-once p q
 
 pub placing : OneAnswer 0 placing-kinds.ps placing-kinds.r placing-reads.Post (λ κs x y s t. x ≡ y)
 placing κs a x y s t p q = p ∙ sym q

@@ -1,6 +1,7 @@
 -- What the body writer answers, and what it leaves in the buffer.
 -- Assumes nothing.
 use Prim.Native.Nat.{ℕ, _+_}
+use mathlib.Core.Path.{_≡_}
 use mathlib.Core.Bool.{cond}
 use mathlib.Core.List.{List}
 use lib.Dec.{leb, eqb}
@@ -24,3 +25,8 @@ encodedOf m out at = encodedIn m (length out) at
 -- the bytes at the place, all else as it was; nothing is touched where the body is refused
 unfoldable pub laid : Encoded → List ℕ → ℕ → List ℕ → List ℕ
 laid r out at bs = cond (eqb (r .length) 0) out (placed out at bs)
+
+-- the answer r to the writing of a measured body's bytes at the place `at`, and the later contents of out
+pub record MeasuredWritten (m : Measured) (bytes out : List ℕ) (at : ℕ) (r : Encoded) (later : List ℕ) : Type 0 where
+  pub answer : r ≡ encodedOf m out at
+  pub written : later ≡ laid r out at bytes

@@ -11,7 +11,7 @@ ghost use lib.ListN.{length};
 ghost use Rattle.list_measure.specs.Bytes.{itemsOf, lengthsOf};
 ghost use Rattle.list_measure.specs.Answers.{measureOf};
 ghost use Rattle.list_writer.specs.Bytes.{bodyBytes};
-ghost use Rattle.list_writer.specs.Answers.{encoded, encodedIn, encodedOf, laid};
+ghost use Rattle.list_writer.specs.Answers.{encoded, encodedIn, MeasuredWritten};
 ghost use Rattle.list_writer.specs.Pieces.{headNext, headPlaced, footerNext, footerPlaced};
 use codec::Wrote;
 use log_item::EntryIndex;
@@ -51,7 +51,7 @@ pub fn encode(
     out: &mut [u8],
     at: usize,
 ) -> Encoded
-    ensures { λ r. ⌜ (r ≡ encodedOf (measureOf (now (store .entry)) checked (itemsOf items «item_count») (lengthsOf entries «entry_count»)) (now (out .entry)) at) × (now (out .exit) ≡ laid r (now (out .entry)) at (bodyBytes (now (store .entry)) (itemsOf items «item_count») (lengthsOf entries «entry_count») signature)) ⌝ }
+    ensures { λ r. ⌜ MeasuredWritten (measureOf (now (store .entry)) checked (itemsOf items «item_count») (lengthsOf entries «entry_count»)) (bodyBytes (now (store .entry)) (itemsOf items «item_count») (lengthsOf entries «entry_count») signature) (now (out .entry)) at r (now (out .exit)) ⌝ }
 {
     let m = measure(items, item_count, entries, entry_count, store, checked);
     let answer = placing(m, out.len(), at);

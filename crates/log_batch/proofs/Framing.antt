@@ -15,7 +15,7 @@ use Rattle.list_measure.specs.declared.Measured.{Measured}
 use Rattle.list_measure.specs.Answers.{measureOf}
 use Rattle.list_writer.specs.declared.Encoded.{Encoded}
 use Rattle.list_writer.specs.Bytes.{bodyBytes}
-use Rattle.list_writer.specs.Answers.{encoded, encodedOf, laid}
+use Rattle.list_writer.specs.Answers.{encoded, encodedOf, laid, MeasuredWritten}
 use Rattle.list_writer.proofs.Bodies.{accepted, body-length}
 use Rattle.batch_front.specs.Front.{blockBytes, frontBytes, batchEncoded, FrontWritten}
 use Rattle.batch_front.proofs.Planning.{block-small, front-length, body-small, planned}
@@ -38,7 +38,7 @@ module _ (s : List ℕ) (checked : Bool) (xs : List LogItem) (ns content out : L
     batch-behind = body-behind begun (body-small s checked xs ns same) h
 
     pub batch-stored : (signature : ℕ) {later : List ℕ} {x : Encoded}
-        → (x ≡ encodedOf (measureOf s checked xs ns) mid (r .length - m .length)) × (later ≡ laid x mid (r .length - m .length) (bodyBytes s xs ns signature))
+        → MeasuredWritten (measureOf s checked xs ns) (bodyBytes s xs ns signature) mid (r .length - m .length) x later
         → BatchWritten checked xs ns s content signature out r later
     unfolding encodedOf laid framed
     batch-stored signature {later} {x} p =
@@ -50,9 +50,9 @@ module _ (s : List ℕ) (checked : Bool) (xs : List LogItem) (ns content out : L
         let place : offset ≡ 16 + length (blockBytes content) = omega (arith, front .after, front-length (r .length) content) in
         let room : offset + m .length ≤ length mid = omega (arith, stored-length front, k .size, k .fits) in
         let fit : offset + length body ≤ length mid = omega arith in
-        let e : x ≡ encoded 0 0 (m .length) = p .0 ∙ (rw (← same, ne-eqb (m .length) 0 (k .some), le-leb (offset + m .length) (length mid) room)) in
+        let e : x ≡ encoded 0 0 (m .length) = p .answer ∙ (rw (← same, ne-eqb (m .length) 0 (k .some), le-leb (offset + m .length) (length mid) room)) in
         let put : later ≡ take offset mid ++ body ++ drop (offset + length body) mid =
-        p .1 ∙ (rw (e, ne-eqb (m .length) 0 (k .some), le-leb (offset + length body) (length mid) fit)) in
+        p .written ∙ (rw (e, ne-eqb (m .length) 0 (k .some), le-leb (offset + length body) (length mid) fit)) in
         let behind : Stored mid offset body (offset + length body) later = record { after = refl; stored = put ∙ sym (sets-eq body mid offset fit) } in
         let long : 16 + length (blockBytes content) + length body ≡ r .length = omega (arith, k .size) in
         let whole : framed content body ≡ frontBytes (r .length) content ++ body = ap (λ (n : ℕ). frontBytes n content ++ body) long in

@@ -341,10 +341,10 @@ module _ {checked : Bool} {xs : List LogItem} {ns s content : List ℕ} {signatu
 -- ---- refused, and nothing to write
 
 -- A refused write of a body changes no lent byte.
-pub refused-body-kept : {checked : Bool} {t : LogItemBatch} {s : List ℕ} {signature : ℕ} {out : List ℕ} {r : Encoded} {later : List ℕ}
+pub refused-body-kept : (checked : Bool) (t : LogItemBatch) (s : List ℕ) (signature : ℕ) {out : List ℕ} {r : Encoded} {later : List ℕ}
     → BodyWritten checked t s signature out r later → (r .number ≡ 0 → ⊥) → later ≡ out
-refused-body-kept {checked} {t} {s} {signature} {out} {r} {later} w h =
-    go (encodes s checked (listed t) (tableLengths t) signature out 0 (w .answer) (w .written))
+refused-body-kept checked t s signature {out} {r} {later} w h =
+    go (encodes s checked (listed t) (tableLengths t) signature out 0 w)
   where
     go : Encodes s checked (listed t) (tableLengths t) signature out 0 r later → later ≡ out
     go (writes z some b) = absurd (h z)
@@ -376,11 +376,11 @@ module _ (s ns : List ℕ) where
   none-measured checked = refl
 
 -- and the buffer keeps all else.
-pub no-items : {checked : Bool} {t : LogItemBatch} {s : List ℕ} {signature : ℕ} {out : List ℕ} {r : Encoded} {later : List ℕ}
+pub no-items : (checked : Bool) (t : LogItemBatch) (s : List ℕ) (signature : ℕ) {out : List ℕ} {r : Encoded} {later : List ℕ}
     → BodyWritten checked t s signature out r later → t .«item_count» ≡ 0 → 5 ≤ length out
     → (r ≡ encoded 0 0 5) × (later ≡ 0 ∷ littleEndianBytes 4 (bitXor (crcOf (0 ∷ [])) signature) ++ drop 5 out)
 unfolding itemsOf encodedOf laid
-no-items {checked} {t} {s} {signature} {out} {r} w z room =
+no-items checked t s signature {out} {r} w z room =
     let none : listed t ≡ [] = ap (itemsOf (t .items)) z in
     let answer : r ≡ encoded 0 0 5 = w .answer ∙ (rw (none, none-measured s (tableLengths t) checked, le-leb 5 (length out) room)) in
     (answer, w .written ∙ (rw (answer, none, none-bytes s (tableLengths t) signature, length-little, le-leb 5 (length out) room)))

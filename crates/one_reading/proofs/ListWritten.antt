@@ -20,7 +20,7 @@ use Rattle.list_measure.specs.Bytes.{listBytes}
 use Rattle.list_writer.specs.Bytes.{bodyBytes}
 use Rattle.list_measure.specs.Refusing.{Verdict, fine, refused, unlessItem, itemsVerdict, listVerdict}
 use Rattle.list_measure.specs.Answers.{measured, measuredOf, measureOf}
-use Rattle.list_writer.specs.Answers.{encoded, encodedOf, laid}
+use Rattle.list_writer.specs.Answers.{encoded, encodedOf, laid, MeasuredWritten}
 use Rattle.log_item.proofs.Refusals.{untaken}
 use Rattle.list_measure.proofs.Heads.{unless-fine}
 use Rattle.list_writer.proofs.Bodies.{accepted, body-length}
@@ -86,10 +86,9 @@ measures s checked xs ns = go (listVerdict s checked xs ns) refl
 -- ---- what an answer of `encode` tells
 
 pub encodes : (s : List ℕ) (checked : Bool) (xs : List LogItem) (ns : List ℕ) (signature : ℕ) (out : List ℕ) (at : ℕ) {r : Encoded} {later : List ℕ}
-    → r ≡ encodedOf (measureOf s checked xs ns) out at → later ≡ laid r out at (bodyBytes s xs ns signature)
-    → Encodes s checked xs ns signature out at r later
+    → MeasuredWritten (measureOf s checked xs ns) (bodyBytes s xs ns signature) out at r later → Encodes s checked xs ns signature out at r later
 unfolding encodedOf laid
-encodes s checked xs ns signature out at {r} {later} answer contents = go (measureOf s checked xs ns) refl (measures s checked xs ns)
+encodes s checked xs ns signature out at {r} {later} w = go (measureOf s checked xs ns) refl (measures s checked xs ns)
   where
     body : List ℕ
     body = bodyBytes s xs ns signature
@@ -109,18 +108,18 @@ encodes s checked xs ns signature out at {r} {later} answer contents = go (measu
           told = a .told;
           whole = long ∙ sym l;
           fits = fit;
-          bytes = contents ∙ (rw (ne-eqb (r .length) 0 some, le-leb (at + length body) (length out) fit));
+          bytes = w .written ∙ (rw (ne-eqb (r .length) 0 some, le-leb (at + length body) (length out) fit));
         })
     room m e p false h k =
         leaves (omega (arith, ap (λ (x : Encoded). x .number) k)) (ap (λ (x : Encoded). x .length) k)
-        (contents ∙ (rw (eq-eqb (r .length) 0 (ap (λ (x : Encoded). x .length) k))))
+        (w .written ∙ (rw (eq-eqb (r .length) 0 (ap (λ (x : Encoded). x .length) k))))
 
     go : (m : Measured) → measureOf s checked xs ns ≡ m → Measures m → Encodes s checked xs ns signature out at r later
     go m e (refuses p q) =
-        let k : r ≡ encoded (m .number) (m .item) 0 = answer ∙ (rw (e, eq-eqb (m .length) 0 q)) in
+        let k : r ≡ encoded (m .number) (m .item) 0 = w .answer ∙ (rw (e, eq-eqb (m .length) 0 q)) in
         let z : r .length ≡ 0 = ap (λ (x : Encoded). x .length) k in
-        leaves (omega (arith, ap (λ (x : Encoded). x .number) k)) z (contents ∙ (rw (eq-eqb (r .length) 0 z)))
+        leaves (omega (arith, ap (λ (x : Encoded). x .number) k)) z (w .written ∙ (rw (eq-eqb (r .length) 0 z)))
     go m e (accepts p q) =
         let some : m .length ≡ 0 → ⊥ = λ z. omega arith in
-        let k : r ≡ cond (leb (at + m .length) (length out)) (encoded 0 0 (m .length)) (encoded 21 0 0) = answer ∙ (rw (e, ne-eqb (m .length) 0 some)) in
+        let k : r ≡ cond (leb (at + m .length) (length out)) (encoded 0 0 (m .length)) (encoded 21 0 0) = w .answer ∙ (rw (e, ne-eqb (m .length) 0 some)) in
         room m (sym e) q (leb (at + m .length) (length out)) refl k

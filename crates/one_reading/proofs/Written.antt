@@ -254,7 +254,7 @@ module _ (checked : Bool) (t : LogItemBatch) (s : List ℕ) (signature : ℕ) (o
       → (total : ℕ) × (take (r .length) later ≡ bodyBytes s (listed t) (table.tableLengths t) signature)
       × (listVerdict s checked (listed t) (table.tableLengths t) ≡ fine total)
   unfolding listVerdict
-  buffer-written w z = go (encodes s checked (listed t) (table.tableLengths t) signature out 0 (w .answer) (w .written))
+  buffer-written w z = go (encodes s checked (listed t) (table.tableLengths t) signature out 0 w)
     where
       go : Encodes s checked (listed t) (table.tableLengths t) signature out 0 r later
           → (total : ℕ) × (take (r .length) later ≡ bodyBytes s (listed t) (table.tableLengths t) signature)

@@ -3,6 +3,7 @@
 use mathlib.Core.Path.{_≡_, sym, _∙_}
 use denote.Ref.{now}
 use Rattle.one_answer.specs.OneAnswer.{OneAnswer}
+use Rattle.list_writer.proofs.Determined.{written-once}
 use Rattle.rows_writer.proofs.measure_rows.Kinds as measure-rows-kinds
 use Rattle.rows_writer.proofs.measure_rows.Reads as measure-rows-reads
 use Rattle.rows_writer.proofs.encode_rows.Kinds as encode-rows-kinds
@@ -12,4 +13,4 @@ pub measure-rows : OneAnswer 3 measure-rows-kinds.ps measure-rows-kinds.r measur
 measure-rows κs a x y s t p q = p ∙ sym q
 
 pub encode-rows : OneAnswer 4 encode-rows-kinds.ps encode-rows-kinds.r encode-rows-reads.Post (λ κs x y s t. (x ≡ y) × (now (s .1 .1 .1 .1 .1 .0) ≡ now (t .1 .1 .1 .1 .1 .0)))
-encode-rows κs a x y s t p q = let e : x ≡ y = p .0 ∙ sym (q .0) in (e, p .1 ∙ (rw e (sym (q .1))))
+encode-rows κs a x y s t p q = written-once p q

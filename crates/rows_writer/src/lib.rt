@@ -6,7 +6,7 @@ ghost use mathlib.Core.Path.{_≡_};
 ghost use Prim.Native.Nat.{_+_, _*_, _≤_};
 ghost use lib.ListN.{length, getD};
 ghost use Rattle.item_row.specs.Row.{itemOfRow};
-ghost use Rattle.list_writer.specs.Answers.{encodedOf, laid};
+ghost use Rattle.list_writer.specs.Answers.{MeasuredWritten};
 ghost use Rattle.rows_writer.specs.Rows.{measureRows, rowsBytes};
 use item_row::ItemRowRead;
 use list_writer::Encoded;
@@ -95,7 +95,7 @@ pub fn encode_rows(
     out: &mut [u8],
     at: usize,
 ) -> Encoded
-    ensures { λ r. ⌜ (r ≡ encodedOf (measureRows (now (store .entry)) checked (now (items .entry)) (now (entries .entry))) (now (out .entry)) at) × (now (out .exit) ≡ laid r (now (out .entry)) at (rowsBytes (now (store .entry)) (now (items .entry)) (now (entries .entry)) signature)) ⌝ }
+    ensures { λ r. ⌜ MeasuredWritten (measureRows (now (store .entry)) checked (now (items .entry)) (now (entries .entry))) (rowsBytes (now (store .entry)) (now (items .entry)) (now (entries .entry)) signature) (now (out .entry)) at r (now (out .exit)) ⌝ }
 {
     let m = measure_rows(items, entries, store, checked);
     let answer = list_writer::placing(m, out.len(), at);
