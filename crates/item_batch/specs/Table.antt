@@ -41,3 +41,7 @@ tableOf body block (accepted xs rows u q) =
       refusal = record { number = 0; item = 0 };
     }
 tableOf body block (rejected r i) = emptyTable r i
+
+-- the table of a body by itself: it stands at 0, and there is no block
+abbrev pub bodyTable : List ℕ → Answer → LogItemBatch
+bodyTable body a = tableOf (record { at = 0; len = length body }) (record { at = 0; len = 0 }) a

@@ -1,10 +1,9 @@
 // The items of a batch in a table: reading a body into it, and writing it as a body. From log_batch.rs, LogItemBatch.
 ghost use mathlib.Core.Path.{_≡_};
-ghost use lib.ListN.{length};
 ghost use Rattle.body_check.specs.Reading.{readItems};
 ghost use Rattle.body_check.specs.Body.{readBody};
 ghost use Rattle.log_item.specs.Blank.{blankItem, blankEntry};
-ghost use Rattle.item_batch.specs.Table.{emptyTable, tableOf};
+ghost use Rattle.item_batch.specs.Table.{emptyTable, tableOf, bodyTable};
 ghost use Rattle.item_batch.specs.Writing.{BodyWritten};
 ghost use mathlib.Core.Bool.{true, false};
 use codec::NumberRead;
@@ -59,7 +58,7 @@ fn blank_entry() -> EntryIndex
 
 // The table of a body without its footer, or the empty table with the refusal.
 pub fn read_items(buf: &[u8]) -> LogItemBatch
-    ensures { λ r. ⌜ r ≡ tableOf (record { at = 0; len = length (now (buf .entry)) }) (record { at = 0; len = 0 }) (readItems Form.Any (now (buf .entry))) ⌝ }
+    ensures { λ r. ⌜ r ≡ bodyTable (now (buf .entry)) (readItems Form.Any (now (buf .entry))) ⌝ }
 {
     LogItemBatch::fill(buf, buf.len())
 }
@@ -86,7 +85,7 @@ impl LogItemBatch {
 
     // The table of a body with its footer, under a signature, or the empty table with the refusal.
     pub fn decode(body: &[u8], signature: u32) -> LogItemBatch
-        ensures { λ r. ⌜ r ≡ tableOf (record { at = 0; len = length (now (body .entry)) }) (record { at = 0; len = 0 }) (readBody (now (body .entry)) signature) ⌝ }
+        ensures { λ r. ⌜ r ≡ bodyTable (now (body .entry)) (readBody (now (body .entry)) signature) ⌝ }
     {
         let broken = seal::check_seal(body, signature);
         if broken != refusal::NONE {

@@ -3,17 +3,16 @@
 //
 // Each function returns 0 or a refusal's number, and sets `answer` at each call.
 ghost use mathlib.Core.Path.{_≡_};
-ghost use lib.ListN.{length};
 ghost use Rattle.body_check.specs.Body.{readBody};
 ghost use Rattle.item_row.specs.Reply.{reply};
-ghost use Rattle.item_batch.specs.Table.{tableOf};
+ghost use Rattle.item_batch.specs.Table.{bodyTable};
 ghost use Rattle.speed_tables.specs.Again.{tableReply, WrittenAgain};
 use item_batch::LogItemBatch;
 
 // A body, read into a table by value: its items, its entries, the entry total, and the place after the last item.
 #[no_mangle]
 pub extern "C" fn speed_table(body: &[u8], signature: u32, answer: &mut [u64; 4]) -> u32
-    ensures { λ r. ⌜ reply r (now (answer .exit)) ≡ tableReply (tableOf (record { at = 0; len = length (now (body .entry)) }) (record { at = 0; len = 0 }) (readBody (now (body .entry)) signature)) ⌝ }
+    ensures { λ r. ⌜ reply r (now (answer .exit)) ≡ tableReply (bodyTable (now (body .entry)) (readBody (now (body .entry)) signature)) ⌝ }
 {
     let t = LogItemBatch::decode(body, signature);
     *answer = [
@@ -33,7 +32,7 @@ pub extern "C" fn speed_write(
     out: &mut [u8],
     answer: &mut [u64; 1],
 ) -> u32
-    ensures { λ r. ⌜ WrittenAgain (tableOf (record { at = 0; len = length (now (body .entry)) }) (record { at = 0; len = 0 }) (readBody (now (body .entry)) signature)) (now (body .entry)) signature (now (out .entry)) (reply r (now (answer .exit))) (now (out .exit)) ⌝ }
+    ensures { λ r. ⌜ WrittenAgain (bodyTable (now (body .entry)) (readBody (now (body .entry)) signature)) (now (body .entry)) signature (now (out .entry)) (reply r (now (answer .exit))) (now (out .exit)) ⌝ }
 {
     let t = LogItemBatch::decode(body, signature);
     let number = t.refusal.number;
