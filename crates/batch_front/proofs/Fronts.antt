@@ -17,7 +17,7 @@ use Rattle.log_item.proofs.Stores.{stored-then, stored-length, stored-same}
 use Rattle.list_measure.specs.declared.Measured.{Measured}
 use Rattle.list_writer.specs.declared.Encoded.{Encoded}
 use Rattle.list_writer.specs.Answers.{encoded, laid}
-use Rattle.batch_front.specs.Front.{blockBytes, headerBytes, frontBytes, batchEncoded, frontEncoded, FrontWritten}
+use Rattle.batch_front.specs.Front.{blockBytes, bodyOffset, headerBytes, frontBytes, batchEncoded, frontEncoded, FrontWritten}
 use Rattle.batch_front.proofs.Planning.{empty-block, filled-block, block-empty, block-filled, block-small, front-length, planned}
 
 -- ---- header and block
@@ -26,10 +26,10 @@ stores : {out later : List ℕ} {at n : ℕ} {bs : List ℕ} {r : Wrote} → at 
     → n ≡ at + length bs → Stored out at bs n later
 stores {out} {later} {at} {n} {bs} {r} h p e = record { after = e; stored = (simp (le-leb _ _ h) at (p .1)) ∙ sym (sets-eq bs out at h) }
 
-module _ (content out : List ℕ) (len : ℕ) (room : Room out 0 (frontBytes len content)) {offset : ℕ} (there : offset ≡ 16 + length (blockBytes content)) {a b : List ℕ}
+module _ (content out : List ℕ) (len : ℕ) (room : Room out 0 (frontBytes len content)) {offset : ℕ} (there : offset ≡ bodyOffset content) {a b : List ℕ}
     {p q : Wrote} (first : (p ≡ wroteAt out 0 (bigEndianBytes 8 (len * 256))) × (a ≡ placed out 0 (bigEndianBytes 8 (len * 256))))
     (second : (q ≡ wroteAt a 8 (bigEndianBytes 8 offset)) × (b ≡ placed a 8 (bigEndianBytes 8 offset))) where
-  enough : 16 + length (blockBytes content) ≤ length out
+  enough : bodyOffset content ≤ length out
   enough = omega (arith, room .fits, front-length len content)
 
   header-stored : Stored out 0 (headerBytes len offset) 16 b

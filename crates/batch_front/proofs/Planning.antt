@@ -21,7 +21,7 @@ use Rattle.list_measure.specs.Refusing.{Verdict, fine, refused, listVerdict}
 use Rattle.list_measure.specs.Answers.{measured, measuredOf, measureOf}
 use Rattle.list_writer.specs.Bytes.{footed}
 use Rattle.list_writer.specs.Answers.{encoded}
-use Rattle.batch_front.specs.Front.{blockBytes, headerBytes, frontBytes, batchEncoded}
+use Rattle.batch_front.specs.Front.{blockBytes, bodyOffset, headerBytes, frontBytes, batchEncoded}
 
 -- ---- lengths
 
@@ -33,10 +33,10 @@ pub filled-block : (content : List ℕ) → (length content ≡ 0 → ⊥) → b
 unfolding blockBytes footed
 filled-block content h = rw (ne-eqb (length content) 0 h, xor-zero-r (crcOf content))
 
-pub block-empty : (content : List ℕ) → length content ≡ 0 → 16 ≡ 16 + length (blockBytes content)
+pub block-empty : (content : List ℕ) → length content ≡ 0 → 16 ≡ bodyOffset content
 block-empty content h = omega (arith, ap length (empty-block content h))
 
-pub block-filled : (content : List ℕ) → (length content ≡ 0 → ⊥) → 16 + length content + 4 ≡ 16 + length (blockBytes content)
+pub block-filled : (content : List ℕ) → (length content ≡ 0 → ⊥) → 16 + length content + 4 ≡ bodyOffset content
 block-filled content h =
     let word : List ℕ = littleEndianBytes 4 (crcOf content) in
     omega (arith, ap length (filled-block content h), length-append content word, length-little 4 (crcOf content))
@@ -53,11 +53,10 @@ unfolding headerBytes
 header-length len offset =
     length-append (bigEndianBytes 8 (len * 256)) (bigEndianBytes 8 offset) ∙ omega (arith, length-big 8 (len * 256), length-big 8 offset)
 
-pub front-length : (len : ℕ) (content : List ℕ) → length (frontBytes len content) ≡ 16 + length (blockBytes content)
+pub front-length : (len : ℕ) (content : List ℕ) → length (frontBytes len content) ≡ bodyOffset content
 unfolding frontBytes
 front-length len content =
-    let offset : ℕ = 16 + length (blockBytes content) in
-    length-append (headerBytes len offset) (blockBytes content) ∙ omega (arith, header-length len offset)
+    length-append (headerBytes len (bodyOffset content)) (blockBytes content) ∙ omega (arith, header-length len (bodyOffset content))
 
 -- A body that is not refused is short enough for the sums behind it.
 pub body-small : (s : List ℕ) (checked : Bool) (xs : List LogItem) (ns : List ℕ) {m : Measured} → m ≡ measureOf s checked xs ns → m .length ≤ 4294967295
@@ -119,7 +118,7 @@ module _ (m : Measured) (items : ℕ) (content : List ℕ) (room : ℕ) {r : Enc
         unfolding batchEncoded
         refused-20 h e = rw (something items (length content) some, ne-eqb (m .length) 0 long, le-ltb 2147483647 (m .total) few, ne-eqb (m .total) (length content) h) e
 
-        module _ (same : m .total ≡ length content) {offset : ℕ} (there : offset ≡ 16 + length (blockBytes content)) where
+        module _ (same : m .total ≡ length content) {offset : ℕ} (there : offset ≡ bodyOffset content) where
           pub refused-21 : room < offset + m .length → r ≡ encoded 21 0 0 → r ≡ batchEncoded m items content room
           unfolding batchEncoded
           refused-21 h e =
@@ -136,7 +135,7 @@ pub record Planned (m : Measured) (content : List ℕ) (room : ℕ) (r : Encoded
   pub some : m .length ≡ 0 → ⊥
   pub few : length content ≤ 2147483647
   pub total : m .total ≡ length content
-  pub size : r .length ≡ 16 + length (blockBytes content) + m .length
+  pub size : r .length ≡ bodyOffset content + m .length
   pub fits : r .length ≤ room
 
 pub planned : (m : Measured) (items : ℕ) (content : List ℕ) (room : ℕ) {r : Encoded} → r ≡ batchEncoded m items content room → (r .length ≡ 0 → ⊥)
@@ -145,7 +144,7 @@ unfolding batchEncoded
 planned m items content room {r} told h = first (eqb items 0 && eqb (length content) 0) told
   where
     size : ℕ
-    size = 16 + length (blockBytes content) + m .length
+    size = bodyOffset content + m .length
 
     none : {n i : ℕ} → r ≡ encoded n i 0 → Planned m content room r
     none e = absurd (h (ap (λ (x : Encoded). x .length) e))
@@ -202,7 +201,7 @@ silent m items content room =
     (either (eqb (m .total) (length content)) (either (leb size room) (record { none = λ h. absurd (h refl) }) (no 21 0)) (no 20 0))))
   where
     size : ℕ
-    size = 16 + length (blockBytes content) + m .length
+    size = bodyOffset content + m .length
 
     no : (n i : ℕ) → Silent (encoded n i 0)
     no n i = record { none = λ h. refl }

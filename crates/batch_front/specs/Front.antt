@@ -16,18 +16,22 @@ use Rattle.list_writer.specs.Answers.{encoded, laid}
 unfoldable pub blockBytes : List ℕ → List ℕ
 blockBytes content = cond (eqb (length content) 0) [] (footed 0 content)
 
+-- where the body stands: behind the header and the block
+abbrev pub bodyOffset : List ℕ → ℕ
+bodyOffset content = 16 + length (blockBytes content)
+
 -- length times 256 plus compression type 0, and the body's offset
 unfoldable pub headerBytes : ℕ → ℕ → List ℕ
 headerBytes len offset = bigEndianBytes 8 (len * 256) ++ bigEndianBytes 8 offset
 
 -- what stands before the body of a batch of this length: header and block
 unfoldable pub frontBytes : ℕ → List ℕ → List ℕ
-frontBytes len content = headerBytes len (16 + length (blockBytes content)) ++ blockBytes content
+frontBytes len content = headerBytes len (bodyOffset content) ++ blockBytes content
 
 -- nothing where there are no items and no content; else the body's refusals and its 22, 22 for the entry total, 20, 21
 unfoldable pub batchEncoded : Measured → ℕ → List ℕ → ℕ → Encoded
 batchEncoded m items content room =
-    let size = 16 + length (blockBytes content) + m .length in
+    let size = bodyOffset content + m .length in
     cond (eqb items 0 && eqb (length content) 0) (encoded 0 0 0)
     (cond (eqb (m .length) 0) (encoded (m .number) (m .item) 0)
     (cond (ltb 2147483647 (m .total)) (encoded 22 0 0)

@@ -1,8 +1,8 @@
 // What stands before the body of a whole batch that is written: header and block. From log_batch.rs, LogBatch.
 ghost use mathlib.Core.Path.{_≡_};
-ghost use Prim.Native.Nat.{_+_, _≤_, _<_};
+ghost use Prim.Native.Nat.{_≤_, _<_};
 ghost use lib.ListN.{length};
-ghost use Rattle.batch_front.specs.Front.{blockBytes, frontBytes, batchEncoded, FrontWritten};
+ghost use Rattle.batch_front.specs.Front.{bodyOffset, frontBytes, batchEncoded, FrontWritten};
 ghost use Rattle.words.specs.Write.{placed};
 ghost use Rattle.log_item.specs.Private.{Room};
 use list_measure::Measured;
@@ -59,7 +59,7 @@ fn plan(m: Measured, items: usize, content: &[u8], room: usize) -> Encoded
 // Where the body stands behind a block of this content.
 fn body_offset(content: &[u8]) -> usize
     requires { ⌜ length (now content) ≤ 2147483647 ⌝ }
-    ensures { λ r. ⌜ r ≡ 16 + length (blockBytes (now (content .entry))) ⌝ }
+    ensures { λ r. ⌜ r ≡ bodyOffset (now (content .entry)) ⌝ }
 {
     if content.len() == 0 {
         return HEADER_LEN;

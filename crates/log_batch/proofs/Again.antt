@@ -24,7 +24,7 @@ use Rattle.list_measure.specs.Bytes.{itemsBytes, listBytes}
 use Rattle.list_writer.specs.Bytes.{footed, bodyBytes}
 use Rattle.seal.specs.Seal.{sealCheck, blockCheck, contentLength}
 use Rattle.one_reading.proofs.Bodies.{sealed-of}
-use Rattle.batch_front.specs.Front.{blockBytes, headerBytes, frontBytes}
+use Rattle.batch_front.specs.Front.{blockBytes, bodyOffset, headerBytes, frontBytes}
 use Rattle.batch_front.proofs.Planning.{filled-block, block-empty, block-filled, header-length, front-length}
 use Rattle.log_batch.specs.Header.{frame, header}
 use Rattle.log_batch.specs.Batch.{blockOf, bodyOf, sealedBatch}
@@ -78,7 +78,7 @@ content-first (b ∷ bs) rest =
 
 module _ (content body t : List ℕ) where
   abbrev offset : ℕ
-  offset = 16 + length (blockBytes content)
+  offset = bodyOffset content
 
   abbrev len : ℕ
   len = offset + length body
@@ -111,7 +111,7 @@ module _ (content body t : List ℕ) where
       rw (block-split, drop-at (headerBytes len offset) (blockBytes content ++ (body ++ t)) 16 (header-length len offset))
       (content-first content (body ++ t))
 
-  module _ (small : 16 + length (blockBytes content) + length body < 2 ^ 56) where
+  module _ (small : bodyOffset content + length body < 2 ^ 56) where
     pub header-again : header (framed content body ++ t) 0 ≡ got (frameOf content body) 16
     unfolding header headerBytes
     header-again =

@@ -17,7 +17,7 @@ use Rattle.list_writer.specs.declared.Encoded.{Encoded}
 use Rattle.list_writer.specs.Bytes.{bodyBytes}
 use Rattle.list_writer.specs.Answers.{encoded, encodedOf, laid, MeasuredWritten}
 use Rattle.list_writer.proofs.Bodies.{accepted, body-length}
-use Rattle.batch_front.specs.Front.{blockBytes, frontBytes, batchEncoded, FrontWritten}
+use Rattle.batch_front.specs.Front.{bodyOffset, frontBytes, batchEncoded, FrontWritten}
 use Rattle.batch_front.proofs.Planning.{block-small, front-length, body-small, planned}
 use Rattle.batch_front.proofs.Fronts.{begun-told, begun-left, body-behind, front-stored}
 use Rattle.log_batch.specs.Written.{framed, BatchWritten}
@@ -47,14 +47,14 @@ module _ (s : List ℕ) (checked : Bool) (xs : List LogItem) (ns content out : L
         let k = planned m items content (length out) told h in
         let body : List ℕ = bodyBytes s xs ns signature in
         let l : length body ≡ m .length = body-length signature (accepted s checked xs ns m same (k .some)) in
-        let place : offset ≡ 16 + length (blockBytes content) = omega (arith, front .after, front-length (r .length) content) in
+        let place : offset ≡ bodyOffset content = omega (arith, front .after, front-length (r .length) content) in
         let room : offset + m .length ≤ length mid = omega (arith, stored-length front, k .size, k .fits) in
         let fit : offset + length body ≤ length mid = omega arith in
         let e : x ≡ encoded 0 0 (m .length) = p .answer ∙ (rw (← same, ne-eqb (m .length) 0 (k .some), le-leb (offset + m .length) (length mid) room)) in
         let put : later ≡ take offset mid ++ body ++ drop (offset + length body) mid =
         p .written ∙ (rw (e, ne-eqb (m .length) 0 (k .some), le-leb (offset + length body) (length mid) fit)) in
         let behind : Stored mid offset body (offset + length body) later = record { after = refl; stored = put ∙ sym (sets-eq body mid offset fit) } in
-        let long : 16 + length (blockBytes content) + length body ≡ r .length = omega (arith, k .size) in
+        let long : bodyOffset content + length body ≡ r .length = omega (arith, k .size) in
         let whole : framed content body ≡ frontBytes (r .length) content ++ body = ap (λ (n : ℕ). frontBytes n content ++ body) long in
         let w : Stored out 0 (framed content body) (offset + length body) later = stored-same whole (stored-then front behind) in
         let all : 0 + length (framed content body) ≤ length out = omega (arith, w .after, place, long, k .fits) in
@@ -67,7 +67,7 @@ module _ (s : List ℕ) (checked : Bool) (xs : List LogItem) (ns content out : L
 
 -- What a contract that is met tells, where the answer has a length: the batch stands at the start, and behind it what stood there.
 pub record Whole (content body out : List ℕ) (r : Encoded) (later : List ℕ) : Type 0 where
-  pub size : r .length ≡ 16 + length (blockBytes content) + length body
+  pub size : r .length ≡ bodyOffset content + length body
   pub few : r .length < 2 ^ 56
   pub bytes : later ≡ framed content body ++ drop (r .length) out
 
@@ -80,7 +80,7 @@ whole {checked} {xs} {ns} {s} {content} {signature} {out} {r} {later} w h =
     let body : List ℕ = bodyBytes s xs ns signature in
     let batch : List ℕ = framed content body in
     let l : length body ≡ m .length = body-length signature (accepted s checked xs ns m refl (k .some)) in
-    let len : ℕ = 16 + length (blockBytes content) + length body in
+    let len : ℕ = bodyOffset content + length body in
     let long : length batch ≡ len = length-append (frontBytes len content) body ∙ omega (arith, front-length len content) in
     let same : 0 + length batch ≡ r .length = omega (arith, k .size) in
     let fit : 0 + length batch ≤ length out = omega (arith, k .fits) in

@@ -57,7 +57,7 @@ use Rattle.one_reading.proofs.Bodies.{sound-body, complete-body, sound-plain, c
 use Rattle.one_reading.proofs.Written.{written-spelled, written-bytes, written-kept, read-back, other-signature, table-small, buffer-written, buffer-read-back}
 use Rattle.one_reading.proofs.Encoding.{Encodes, writes, leaves}
 use Rattle.one_reading.proofs.ListWritten.{encodes}
-use Rattle.batch_front.specs.Front.{blockBytes, batchEncoded}
+use Rattle.batch_front.specs.Front.{blockBytes, bodyOffset, batchEncoded}
 use Rattle.batch_front.proofs.Planning.{planned, verdict-of, refused-length}
 use Rattle.log_batch.specs.declared.LogBatch.{LogBatch}
 use Rattle.log_batch.specs.Header.{header}
@@ -298,14 +298,14 @@ module _ {checked : Bool} {xs : List LogItem} {ns s content : List ℕ} {signatu
 
   pub written-read : Bytes content → Bytes (listBytes s xs ns) → signature < 2 ^ 32
       → readBatch later signature
-      ≡ tableOf (record { at = 16 + length (blockBytes content); len = length (bodyBytes s xs ns signature) })
+      ≡ tableOf (record { at = bodyOffset content; len = length (bodyBytes s xs ns signature) })
       (record { at = 16; len = length (blockBytes content) })
       (agreeing (Exactly (length content)) (readBody (bodyBytes s xs ns signature) signature))
   written-read bytes items key =
       let t : List ℕ = drop (r .length) out in
       let k = whole w h in
-      let long : 16 + length (blockBytes content) + length body - (16 + length (blockBytes content)) ≡ length body = omega arith in
-      let block : 16 + length (blockBytes content) - 16 ≡ length (blockBytes content) = omega arith in
+      let long : bodyOffset content + length body - bodyOffset content ≡ length body = omega arith in
+      let block : bodyOffset content - 16 ≡ length (blockBytes content) = omega arith in
       let size : contentLength (blockOf (frameOf content body) (framed content body ++ t)) ≡ length content =
       ap contentLength (block-again content body t) ∙ content-size content in
       let sealed = sealed-again content body t (rw (k .size) at (k .few)) signature bytes (body-good s xs ns signature items key) in
@@ -322,7 +322,7 @@ module _ {checked : Bool} {xs : List LogItem} {ns s content : List ℕ} {signatu
 
     pub batch-read-back : Bytes s → Bytes content → signature < 2 ^ 32
         → readBatch later signature
-        ≡ tableOf (record { at = 16 + length (blockBytes content); len = length (bodyBytes s xs ns signature) })
+        ≡ tableOf (record { at = bodyOffset content; len = length (bodyBytes s xs ns signature) })
         (record { at = 16; len = length (blockBytes content) })
         (accepted (bodyItems s xs ns) (bodyRows xs ns) (length content) (length (listBytes s xs ns)))
     batch-read-back store bytes key =

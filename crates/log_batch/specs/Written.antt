@@ -10,18 +10,18 @@ use Rattle.list_measure.specs.Answers.{measureOf}
 use Rattle.list_writer.specs.declared.Encoded.{Encoded}
 use Rattle.list_writer.specs.Bytes.{bodyBytes}
 use Rattle.list_writer.specs.Answers.{laid}
-use Rattle.batch_front.specs.Front.{blockBytes, frontBytes, batchEncoded}
+use Rattle.batch_front.specs.Front.{bodyOffset, frontBytes, batchEncoded}
 use Rattle.log_batch.specs.declared.LogBatch.{LogBatch}
 
 -- header, block, body
 unfoldable pub framed : List ℕ → List ℕ → List ℕ
-framed content body = frontBytes (16 + length (blockBytes content) + length body) content ++ body
+framed content body = frontBytes (bodyOffset content + length body) content ++ body
 
 -- what its header states
 abbrev pub frameOf : List ℕ → List ℕ → LogBatch
 frameOf content body = record {
-  offset = 16 + length (blockBytes content);
-  len = 16 + length (blockBytes content) + length body;
+  offset = bodyOffset content;
+  len = bodyOffset content + length body;
   compression = 0;
 }
 
