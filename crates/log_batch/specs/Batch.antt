@@ -4,7 +4,7 @@ use Prim.Native.Nat.{ℕ, _-_}
 use mathlib.Core.List.{List}
 use lib.Dec.{leb, eqb}
 use lib.ListN.{length, take, drop}
-use Rattle.field.specs.Got.{Got, got, refused, Reading, done, bind, _>>=_, _>>_, Test, _else_}
+use Rattle.field.specs.Got.{Got, got, refused, Reading, done, _>>=_, _>>_, Test, _else_}
 use Rattle.field.specs.declared.Form.the-variants.{Any}
 use Rattle.field.specs.declared.Span.{Span}
 use Rattle.item_batch.specs.declared.LogItemBatch.{LogItemBatch}

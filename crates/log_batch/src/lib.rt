@@ -33,6 +33,7 @@ pub struct LogBatch {
     pub compression: u8,
 }
 
+// The frame of a batch; or why its header is refused.
 pub enum HeaderRead {
     Done { batch: LogBatch },
     Refused(u32),
