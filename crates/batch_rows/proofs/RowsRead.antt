@@ -18,7 +18,7 @@ use Rattle.rows_reader.proofs.Reading.{left, same-answer}
 use Rattle.log_batch.specs.declared.LogBatch.{LogBatch}
 use Rattle.batch_rows.specs.declared.BatchCheck.{BatchCheck}
 use Rattle.log_batch.specs.Batch.{sealedBatch, batchAnswer, bodyPlace, blockPlace}
-use Rattle.batch_rows.specs.Rows.{placeIf, BatchRead}
+use Rattle.batch_rows.specs.Rows.{placeIf, BatchReadInto}
 use Rattle.log_batch.proofs.Frames.{batch-part}
 
 abbrev pub checkAt : BodyCheck → Span → Span → BatchCheck
@@ -38,13 +38,13 @@ both-places body block e = rw e
 
 module _ (s : List ℕ) (signature : ℕ) (items entries : List ℕ) where
   pub rows-refused : {n : ℕ} → sealedBatch s signature 0 ≡ refused n
-      → BatchRead s signature items entries (record { check = Refused (record { number = n; item = 0 }); body = record { at = 0; len = 0 }; block = record { at = 0; len = 0 } }) items entries
+      → BatchReadInto s signature items entries (record { check = Refused (record { number = n; item = 0 }); body = record { at = 0; len = 0 }; block = record { at = 0; len = 0 } }) items entries
   rows-refused e = record { rows = left items entries (ap (batchAnswer s) e) refl; body = refl; block = refl }
 
   pub rows-read : {h : LogBatch} {q n : ℕ} {c : BodyCheck} {r : BatchCheck} {later more : List ℕ} → sealedBatch s signature 0 ≡ got h q → n ≡ h .offset - 16 - 4
       → RowsRead (agreeing (Exactly n) (readItems Any (take (h .len - 4 - h .offset) (drop (h .offset) s)))) items entries c later more
       → r ≡ checkAt c (record { at = h .offset; len = h .len - h .offset }) (record { at = 16; len = h .offset - 16 })
-      → BatchRead s signature items entries r later more
+      → BatchReadInto s signature items entries r later more
   rows-read {h} {q} {n} {c} {r} e k w f =
       rw f
       (record {

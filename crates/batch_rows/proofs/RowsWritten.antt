@@ -16,7 +16,7 @@ use Rattle.rows_writer.specs.Rows.{itemRowCount, rowItems, entryLengths, measur
 use Rattle.rows_writer.proofs.RowsMeasuring.{rows-accepted}
 use Rattle.batch_front.specs.Front.{batchEncoded, FrontWritten}
 use Rattle.log_batch.specs.Written.{framed}
-use Rattle.batch_rows.specs.Rows.{rowsEncoded, RowsWritten}
+use Rattle.batch_rows.specs.Rows.{rowsEncoded, BatchWrittenFrom}
 use Rattle.batch_front.proofs.Planning.{body-small, planned}
 use Rattle.batch_front.proofs.Fronts.{begun-told, begun-left, body-behind}
 use Rattle.log_batch.proofs.Framing.{batch-stored}
@@ -37,7 +37,7 @@ module _ (s : List ℕ) (checked : Bool) (items entries : List ℕ) {m : Measure
     answers : r ≡ rowsEncoded checked items entries s content out
     answers = told ∙ ap (λ (x : Measured). batchEncoded x (itemRowCount items) content (length out)) same
 
-    pub rows-left : (signature : ℕ) → r .length ≡ 0 → RowsWritten checked items entries s content signature out r mid
+    pub rows-left : (signature : ℕ) → r .length ≡ 0 → BatchWrittenFrom checked items entries s content signature out r mid
     rows-left signature h =
         record { answer = answers; written = begun-left begun (framed content (rowsBytes s items entries signature)) h }
 
@@ -51,7 +51,7 @@ module _ (s : List ℕ) (checked : Bool) (items entries : List ℕ) {m : Measure
 
       pub rows-stored : (signature : ℕ) {later : List ℕ} {x : Encoded}
           → MeasuredWritten (measureRows s checked items entries) (rowsBytes s items entries signature) mid (r .length - m .length) x later
-          → RowsWritten checked items entries s content signature out r later
+          → BatchWrittenFrom checked items entries s content signature out r later
       rows-stored signature p =
           let e : measureRows s checked items entries ≡ measureOf s checked (rowItems items) (entryLengths entries) = sym same ∙ each .1 in
           let w =

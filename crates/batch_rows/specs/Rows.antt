@@ -23,7 +23,7 @@ placeIf (Accepted items entries total next) k = k
 placeIf (Refused r) k = record { at = 0; len = 0 }
 
 -- the answer r, and the later contents of the rows that are lent
-pub record BatchRead (s : List ℕ) (signature : ℕ) (items entries : List ℕ) (r : BatchCheck) (later more : List ℕ) : Type 0 where
+pub record BatchReadInto (s : List ℕ) (signature : ℕ) (items entries : List ℕ) (r : BatchCheck) (later more : List ℕ) : Type 0 where
   pub rows : RowsRead (batchAnswer s (sealedBatch s signature 0)) items entries (r .check) later more
   pub body : r .body ≡ placeIf (r .check) (bodyPlace (sealedBatch s signature 0))
   pub block : r .block ≡ placeIf (r .check) (blockPlace (sealedBatch s signature 0))
@@ -35,6 +35,6 @@ abbrev pub rowsEncoded : Bool → List ℕ → List ℕ → List ℕ → List �
 rowsEncoded checked items entries store content out = batchEncoded (measureRows store checked items entries) (itemRowCount items) content (length out)
 
 -- the answer r, and the later contents of out: the batch, then what stood there; out as it was where nothing is written
-pub record RowsWritten (checked : Bool) (items entries store content : List ℕ) (signature : ℕ) (out : List ℕ) (r : Encoded) (later : List ℕ) : Type 0 where
+pub record BatchWrittenFrom (checked : Bool) (items entries store content : List ℕ) (signature : ℕ) (out : List ℕ) (r : Encoded) (later : List ℕ) : Type 0 where
   pub answer : r ≡ rowsEncoded checked items entries store content out
   pub written : later ≡ laid r out 0 (framed content (rowsBytes store items entries signature))

@@ -1,6 +1,6 @@
 // Whole batches, read into rows of words that the caller lends, and written from them.
 ghost use mathlib.Core.Path.{_≡_};
-ghost use Rattle.batch_rows.specs.Rows.{placeIf, BatchRead, RowsWritten};
+ghost use Rattle.batch_rows.specs.Rows.{placeIf, BatchReadInto, BatchWrittenFrom};
 use body_check::BodyCheck;
 use body_check::Wanted;
 use list_writer::Encoded;
@@ -19,7 +19,7 @@ pub struct BatchCheck {
 // A whole batch under a signature, read as LogBatch::decode does, but into lent rows: seven words to an item and three to an entry. Where too
 // few are lent it is a 21. A refused batch leaves them as they were.
 pub fn read_rows(buf: &[u8], signature: u32, items: &mut [u64], entries: &mut [u64]) -> BatchCheck
-    ensures { λ r. ⌜ BatchRead (now (buf .entry)) signature (now (items .entry)) (now (entries .entry)) r (now (items .exit)) (now (entries .exit)) ⌝ }
+    ensures { λ r. ⌜ BatchReadInto (now (buf .entry)) signature (now (items .entry)) (now (entries .entry)) r (now (items .exit)) (now (entries .exit)) ⌝ }
 {
     match LogBatch::check_frame(buf, signature) {
         HeaderRead::Refused(number) => BatchCheck {
@@ -75,7 +75,7 @@ pub fn write_rows(
     checked: bool,
     out: &mut [u8],
 ) -> Encoded
-    ensures { λ r. ⌜ RowsWritten checked (now (items .entry)) (now (entries .entry)) (now (store .entry)) (now (content .entry)) signature (now (out .entry)) r (now (out .exit)) ⌝ }
+    ensures { λ r. ⌜ BatchWrittenFrom checked (now (items .entry)) (now (entries .entry)) (now (store .entry)) (now (content .entry)) signature (now (out .entry)) r (now (out .exit)) ⌝ }
 {
     let m = rows_writer::measure_rows(items, entries, store, checked);
     let r = batch_front::begin(m, items.len() / 7, content, out);

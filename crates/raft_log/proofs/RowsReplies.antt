@@ -11,7 +11,7 @@ use Rattle.body_check.specs.Reading.{Answer}
 use Rattle.rows_reader.specs.Lent.{RowsRead}
 use Rattle.batch_rows.specs.declared.BatchCheck.{BatchCheck}
 use Rattle.log_batch.specs.Batch.{sealedBatch, bodyPlace, blockPlace}
-use Rattle.batch_rows.specs.Rows.{placeIf, BatchRead}
+use Rattle.batch_rows.specs.Rows.{placeIf, BatchReadInto}
 use Rattle.item_row.specs.Reply.{Reply, reply}
 use Rattle.raft_log.specs.Answers.{checkReply}
 use Rattle.raft_log.specs.RowsRead.{BodyRowsRead, batchReply, BatchRowsRead}
@@ -36,7 +36,7 @@ places (Accepted m n u q) body block = refl
 places (Refused r) body block = refl
 
 pub batch-replied : {s : List ℕ} {signature : ℕ} {items entries later more : List ℕ} {b : BatchCheck} {r : Reply}
-    → BatchRead s signature items entries b later more → r ≡ batchReply (b .check) (b .body) (b .block) → BatchRowsRead s signature items entries r later more
+    → BatchReadInto s signature items entries b later more → r ≡ batchReply (b .check) (b .body) (b .block) → BatchRowsRead s signature items entries r later more
 batch-replied {s} {signature} {b = b} w e =
     let g = sealedBatch s signature 0 in
     record {

@@ -8,7 +8,7 @@ use Rattle.list_writer.specs.declared.Encoded.{Encoded}
 use Rattle.list_writer.specs.Answers.{laid, MeasuredWritten}
 use Rattle.rows_writer.specs.Rows.{measureRows, rowsBytes}
 use Rattle.log_batch.specs.Written.{framed}
-use Rattle.batch_rows.specs.Rows.{RowsWritten}
+use Rattle.batch_rows.specs.Rows.{BatchWrittenFrom}
 use Rattle.raft_log.specs.RowsWritten.{writtenReply, BodyRowsWritten, BatchRowsWritten}
 
 module _ {checked : Bool} {items entries store : List ℕ} {signature : ℕ} {out later : List ℕ} {e : Encoded} where
@@ -20,7 +20,7 @@ module _ {checked : Bool} {items entries store : List ℕ} {signature : ℕ} {ou
         written = w .written ∙ ap (λ (x : Encoded). laid x out 0 (rowsBytes store items entries signature)) (w .answer);
       }
 
-  pub batch-replied : {content : List ℕ} → RowsWritten checked items entries store content signature out e later
+  pub batch-replied : {content : List ℕ} → BatchWrittenFrom checked items entries store content signature out e later
       → BatchRowsWritten checked items entries store content signature out (writtenReply e) later
   batch-replied {content} w =
       record {
