@@ -1,7 +1,7 @@
 -- What reading a whole batch into lent rows comes to: a law for each way out of the code.
 -- Assumes nothing.
 use Prim.Native.Nat.{ℕ, _-_}
-use mathlib.Core.Path.{_≡_, refl, sym, ap, _∙_}
+use mathlib.Core.Path.{_≡_, refl, sym, ap}
 use mathlib.Core.List.{List}
 use lib.ListN.{take, drop}
 use Rattle.field.specs.Got.{got, refused}
@@ -17,9 +17,9 @@ use Rattle.rows_reader.specs.Lent.{RowsRead}
 use Rattle.rows_reader.proofs.Reading.{left, same-answer}
 use Rattle.log_batch.specs.declared.LogBatch.{LogBatch}
 use Rattle.batch_rows.specs.declared.BatchCheck.{BatchCheck}
-use Rattle.log_batch.specs.Batch.{sealedBatch, batchAnswer, bodyPlace, blockPlace}
+use Rattle.log_batch.specs.Batch.{sealedBatch, bodyPlace, blockPlace}
 use Rattle.batch_rows.specs.Rows.{placeIf, BatchReadInto}
-use Rattle.log_batch.proofs.Frames.{batch-part}
+use Rattle.log_batch.proofs.Frames.{batch-known, batch-rejected, batch-part}
 
 abbrev pub checkAt : BodyCheck → Span → Span → BatchCheck
 checkAt check body block = record { check = check; body = placeIf check body; block = placeIf check block }
@@ -39,16 +39,17 @@ both-places body block e = rw e
 module _ (s : List ℕ) (signature : ℕ) (items entries : List ℕ) where
   pub rows-refused : {n : ℕ} → sealedBatch s signature 0 ≡ refused n
       → BatchReadInto s signature items entries (record { check = Refused (record { number = n; item = 0 }); body = record { at = 0; len = 0 }; block = record { at = 0; len = 0 } }) items entries
-  rows-refused e = record { rows = left items entries (ap (batchAnswer s) e) refl; body = refl; block = refl }
+  rows-refused e = record { rows = left items entries (batch-rejected s signature e) refl; body = refl; block = refl }
 
   pub rows-read : {h : LogBatch} {q n : ℕ} {c : BodyCheck} {r : BatchCheck} {later more : List ℕ} → sealedBatch s signature 0 ≡ got h q → n ≡ h .offset - 16 - 4
       → RowsRead (agreeing (Exactly n) (readItems Any (take (h .len - 4 - h .offset) (drop (h .offset) s)))) items entries c later more
       → r ≡ checkAt c (record { at = h .offset; len = h .len - h .offset }) (record { at = 16; len = h .offset - 16 })
       → BatchReadInto s signature items entries r later more
   rows-read {h} {q} {n} {c} {r} e k w f =
+      let front = sym (batch-known s signature e .front) in
       rw f
       (record {
-        rows = same-answer (ap (batchAnswer s) e ∙ sym (batch-part s signature e k)) w;
-        body = ap (λ g. placeIf c (bodyPlace g)) (sym e);
-        block = ap (λ g. placeIf c (blockPlace g)) (sym e);
+        rows = same-answer (sym (batch-part s signature e k)) w;
+        body = ap (λ g. placeIf c (bodyPlace g)) front;
+        block = ap (λ g. placeIf c (blockPlace g)) front;
       })

@@ -13,7 +13,7 @@ use Rattle.list_writer.specs.Answers.{laid}
 use Rattle.rows_writer.specs.Rows.{itemRowCount, measureRows, rowsBytes}
 use Rattle.rows_reader.specs.Lent.{RowsRead}
 use Rattle.batch_rows.specs.declared.BatchCheck.{BatchCheck}
-use Rattle.log_batch.specs.Batch.{sealedBatch, batchAnswer, bodyPlace, blockPlace}
+use Rattle.log_batch.specs.Batch.{frontBatch, batchAnswer, bodyPlace, blockPlace}
 use Rattle.batch_front.specs.Front.{batchEncoded}
 use Rattle.log_batch.specs.Written.{framed}
 
@@ -24,9 +24,9 @@ placeIf (Refused r) k = record { at = 0; len = 0 }
 
 -- the answer r, and the later contents of the rows that are lent
 pub record BatchReadInto (s : List ℕ) (signature : ℕ) (items entries : List ℕ) (r : BatchCheck) (later more : List ℕ) : Type 0 where
-  pub rows : RowsRead (batchAnswer s (sealedBatch s signature 0)) items entries (r .check) later more
-  pub body : r .body ≡ placeIf (r .check) (bodyPlace (sealedBatch s signature 0))
-  pub block : r .block ≡ placeIf (r .check) (blockPlace (sealedBatch s signature 0))
+  pub rows : RowsRead (batchAnswer s signature (frontBatch s 0)) items entries (r .check) later more
+  pub body : r .body ≡ placeIf (r .check) (bodyPlace (frontBatch s 0))
+  pub block : r .block ≡ placeIf (r .check) (blockPlace (frontBatch s 0))
 
 -- ---- writing
 

@@ -1,4 +1,4 @@
--- A batch that was written, read again: its frame, its block, its body and their checksums, whatever stands behind it.
+-- A batch that was written, read again: its frame, its block and its body, whatever stands behind it.
 -- Assumes nothing.
 use Prim.Native.Nat.{ℕ, _+_, _-_, _*_, _/_, _%_, _^_, _≤_, _<_}
 use mathlib.Core.Path.{_≡_, refl, sym, ap, ap₂, _∙_}
@@ -6,47 +6,28 @@ use mathlib.Core.Bool.{Bool, true, false}
 use mathlib.Core.List.{List, [], _∷_, _++_, append-assoc}
 use native.Mathlib.Omega.{arith}
 use native.Mathlib.Nat.{mod-eq-of-lt}
-use lib.Bits.{bitXor, xor-zero-r, xor-lt}
-use lib.Dec.{eqb, lit<}
+use lib.Bits.{xor-zero-r}
+use lib.Dec.{eqb}
 use lib.ListN.{length, take, drop, length-append}
 use lib.Seq.{take-at, drop-at, take-append-seam}
 use borrow.Author.Tests.{le-leb, eqb-true, eqb-false}
 use Rattle.words.specs.Word.{bigEndian, bigEndianBytes, littleEndianBytes}
-use Rattle.numbers.specs.Shortest.{shortest}
-use Rattle.numbers.proofs.Shortest.{spell-pos}
 use Rattle.words.proofs.Words.{length-big, length-little, big-endian-back, little-endian-back}
 use Rattle.crc.specs.Crc.{crcOf}
 use Rattle.words.specs.Byte.{Bytes}
 use Rattle.crc.proofs.Laws.{crc-lt}
 use Rattle.field.specs.Got.{got}
-use Rattle.log_item.specs.declared.LogItem.{LogItem}
-use Rattle.list_measure.specs.Bytes.{itemsBytes, listBytes}
-use Rattle.list_writer.specs.Bytes.{footed, bodyBytes}
 use Rattle.seal.specs.Seal.{sealCheck, blockCheck, contentLength}
 use Rattle.one_reading.proofs.Bodies.{sealed-of}
 use Rattle.batch_front.specs.Front.{blockBytes, bodyOffset, headerBytes, frontBytes}
 use Rattle.batch_front.proofs.Planning.{filled-block, block-empty, block-filled, header-length, front-length}
 use Rattle.log_batch.specs.Header.{frame, header}
-use Rattle.log_batch.specs.Batch.{blockOf, bodyOf, sealedBatch}
+use Rattle.log_batch.specs.Batch.{blockOf, bodyOf, frontBatch}
 use Rattle.log_batch.specs.Written.{framed, frameOf}
 use Rattle.seal.proofs.Sealing.{block-none, block-some}
-use Rattle.log_batch.proofs.Frames.{frame-good, front-good, batch-good}
+use Rattle.log_batch.proofs.Frames.{frame-good, front-good}
 
--- Bytes and their checksum XOR a signature are a right seal.
-seal-good : (bs : List ℕ) (signature : ℕ) → 0 < length bs → Bytes bs → signature < 2 ^ 32
-    → sealCheck (bs ++ littleEndianBytes 4 (bitXor (crcOf bs) signature)) signature ≡ 0
-seal-good bs signature some bytes small =
-    let word : ℕ = bitXor (crcOf bs) signature in
-    sealed-of bs (littleEndianBytes 4 word) signature some (length-little 4 word) (little-endian-back 4 word (xor-lt 32 (crcOf bs) signature (crc-lt bs bytes) small))
-
--- So a body that was written is sealed, where its items are bytes, all below 256.
-pub body-good : (s : List ℕ) (xs : List LogItem) (ns : List ℕ) (signature : ℕ) → Bytes (listBytes s xs ns) → signature < 2 ^ 32
-    → sealCheck (bodyBytes s xs ns signature) signature ≡ 0
-unfolding footed listBytes shortest
-body-good s xs ns signature bytes small =
-    seal-good (listBytes s xs ns) signature (omega (arith, spell-pos 9 (length xs), length-append (shortest (length xs)) (itemsBytes s xs ns 0))) bytes small
-
--- And the bytes of a block pass its check.
+-- The bytes of a block pass its check.
 block-good : (content : List ℕ) → Bytes content → blockCheck (blockBytes content) ≡ 0
 block-good content bytes = go (eqb (length content) 0) refl
   where
@@ -55,7 +36,9 @@ block-good content bytes = go (eqb (length content) 0) refl
     go false e =
         let some : length content ≡ 0 → ⊥ = eqb-false (length content) 0 e in
         let whole = filled-block content some in
-        let good = rw (xor-zero-r (crcOf content)) at (seal-good content 0 (omega arith) bytes (lit< tt)) in
+        let word : List ℕ = littleEndianBytes 4 (crcOf content) in
+        let back = little-endian-back 4 (crcOf content) (crc-lt content bytes) ∙ sym (xor-zero-r (crcOf content)) in
+        let good = sealed-of content word 0 (omega arith) (length-little 4 (crcOf content)) back in
         let long : length (blockBytes content) ≡ 0 → ⊥ = λ z. omega (arith, block-filled content some) in
         sym (block-some (blockBytes content) long (sym (ap (λ (l : List ℕ). sealCheck l 0) whole ∙ good)))
 
@@ -133,10 +116,7 @@ module _ (content body t : List ℕ) where
         rw (le-leb 16 (length (framed content body ++ t)) long)
         (ap₂ (λ (x y : ℕ). frame x y 0) first second ∙ sym good ∙ ap₂ (λ (x y : ℕ). got (record { offset = offset; len = x; compression = y }) 16) whole none)
 
-    pub sealed-again : (signature : ℕ) → Bytes content → sealCheck body signature ≡ 0
-        → sealedBatch (framed content body ++ t) signature 0 ≡ got (frameOf content body) 16
-    sealed-again signature bytes right =
+    pub front-again : Bytes content → frontBatch (framed content body ++ t) 0 ≡ got (frameOf content body) 16
+    front-again bytes =
         let block = ap blockCheck block-again ∙ block-good content bytes in
-        let sealed = ap (λ (l : List ℕ). sealCheck l signature) body-again ∙ right in
-        let front = front-good (framed content body ++ t) header-again whole-length refl (sym block) refl in
-        sym (batch-good (framed content body ++ t) signature (sym front) (sym sealed) refl)
+        sym (front-good (framed content body ++ t) header-again whole-length refl (sym block) refl)

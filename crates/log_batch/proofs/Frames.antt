@@ -10,10 +10,10 @@ use lib.Seq.{take-take}
 use Rattle.words.specs.Word.{bigEndian, readU64}
 use Rattle.words.specs.declared.U64Read.the-variants.{Done, Eof}
 use Rattle.words.proofs.Words.{u64-known, u64-ended}
-use Rattle.field.specs.Got.{got, refused, done, _>>_}
+use Rattle.field.specs.Got.{Got, got, refused, done, _>>_}
 use Rattle.field.specs.declared.Form.the-variants.{Any}
 use Rattle.field.specs.declared.Span.{Span}
-use Rattle.field.proofs.Holds.{Holds, holds, after, at-most, equal, of-got}
+use Rattle.field.proofs.Holds.{Holds, holds, refuses, after, at-most, equal, of-got}
 use Rattle.item_batch.specs.declared.LogItemBatch.{LogItemBatch}
 use Rattle.body_check.specs.declared.Wanted.the-variants.{Exactly}
 use Rattle.body_check.specs.Reading.{Answer, accepted, rejected, readItems}
@@ -26,7 +26,7 @@ use Rattle.item_batch.specs.Table.{emptyTable, tableOf}
 use Rattle.seal.proofs.Sealing.{seal-long}
 use Rattle.log_batch.specs.declared.LogBatch.{LogBatch}
 use Rattle.log_batch.specs.Header.{frame, header}
-use Rattle.log_batch.specs.Batch.{blockOf, bodyOf, passes, frontBatch, sealedBatch, readBatch}
+use Rattle.log_batch.specs.Batch.{blockOf, bodyOf, passes, frontBatch, batchAnswer, readBatch, sealedBatch}
 
 -- ---- the two words
 
@@ -159,29 +159,52 @@ module _ (s : List ℕ) (signature : ℕ) where
     batch-good k = rw e (passed h q (sealCheck (bodyOf h s) signature) sealed k)
 
   -- The body of a good batch has more than its footer, lies in the bytes, and its seal is right.
-  pub record Framed (h : LogBatch) : Type 0 where
+  pub record Framed (h : LogBatch) (q : ℕ) : Type 0 where
+    pub front : frontBatch s 0 ≡ got h q
     pub start : 16 ≤ h .offset
     pub long : h .offset + 4 < h .len
     pub there : h .len ≤ length s
     pub sealed : sealCheck (bodyOf h s) signature ≡ 0
 
-  sealed-holds : (p : ℕ) → Holds (λ h q. Framed h) (sealedBatch s signature p)
+  itself : (m : Got LogBatch) → Holds (λ h q. m ≡ got h q) m
+  itself (got h q) = holds refl
+  itself (refused r) = refuses
+
+  sealed-holds : Holds (λ h q. Framed h q) (sealedBatch s signature 0)
   unfolding sealedBatch
-  sealed-holds p =
-      after (front-holds s p) λ h q k.
+  sealed-holds =
+      after (itself (frontBatch s 0)) λ h q e.
       equal (sealCheck (bodyOf h s) signature) 0 (sealCheck (bodyOf h s) signature) _ q λ body.
+      let k = front-known s e in
       let long : 4 < length (bodyOf h s) = seal-long (bodyOf h s) signature body in
       holds (record {
+        front = e;
         start = k .start;
         long = omega (arith, length-take (h .len - h .offset) (drop (h .offset) s), length-drop (h .offset) s);
         there = k .there;
         sealed = body;
       })
 
-  pub batch-known : {h : LogBatch} {q : ℕ} → sealedBatch s signature 0 ≡ got h q → Framed h
-  batch-known e = of-got (sealed-holds 0) e
+  pub batch-known : {h : LogBatch} {q : ℕ} → sealedBatch s signature 0 ≡ got h q → Framed h q
+  batch-known e = of-got sealed-holds e
 
-  -- ---- what is read of its body
+  -- ---- what the whole batch then comes to
+
+  -- A frame that is refused, for its front or for the checksum of its body, is a batch refused with that number.
+  pub batch-rejected : {r : ℕ} → sealedBatch s signature 0 ≡ refused r → batchAnswer s signature (frontBatch s 0) ≡ rejected r 0
+  batch-rejected {r} e = go (frontBatch s 0) refl
+    where
+      at-seal : (h : LogBatch) (q : ℕ) → frontBatch s 0 ≡ got h q → (n : ℕ) → n ≡ sealCheck (bodyOf h s) signature
+          → batchAnswer s signature (got h q) ≡ rejected r 0
+      at-seal h q f zero k = let wrong : got h q ≡ refused r = batch-good f k refl ∙ e in cc
+      at-seal h q f (suc n) k =
+          let some : suc n ≡ 0 → ⊥ = λ z. omega arith in
+          let same : _≡_ {A = Got LogBatch} (refused (suc n)) (refused r) = batch-broken f k some ∙ e in
+          rw (body-refused (bodyOf h s) signature k some) cc
+
+      go : (g : Got LogBatch) → frontBatch s 0 ≡ g → batchAnswer s signature g ≡ rejected r 0
+      go (refused n) f = let same : _≡_ {A = Got LogBatch} (refused n) (refused r) = batch-refused f ∙ e in cc
+      go (got h q) f = at-seal h q f (sealCheck (bodyOf h s) signature) refl
 
   module _ {h : LogBatch} {q : ℕ} (e : sealedBatch s signature 0 ≡ got h q) where
     body-part : take (h .len - 4 - h .offset) (drop (h .offset) s) ≡ sealedPart (bodyOf h s)
@@ -193,39 +216,32 @@ module _ (s : List ℕ) (signature : ℕ) where
         let same : h .len - 4 - h .offset ≡ h .len - h .offset - 4 = omega arith in
         rw (size, take-take (h .len - h .offset - 4) (h .len - h .offset) (drop (h .offset) s) less) (ap (λ (n : ℕ). take n (drop (h .offset) s)) same)
 
-    -- What is read of its body: the entry total that is wanted is the length of the block's content.
+    -- Behind a right checksum it is what the items come to; the entry total that is wanted is the length of the block's content.
     pub batch-part : {n : ℕ} → n ≡ h .offset - 16 - 4
         → agreeing (Exactly n) (readItems Any (take (h .len - 4 - h .offset) (drop (h .offset) s)))
-        ≡ agreeing (Exactly (contentLength (blockOf h s))) (readItems Any (sealedPart (bodyOf h s)))
+        ≡ batchAnswer s signature (frontBatch s 0)
     batch-part k =
         let g = batch-known e in
         let size : h .offset - 16 - 4 ≡ contentLength (blockOf h s) =
         omega (arith, g .start, g .long, g .there, length-take (h .offset - 16) (drop 16 s), length-drop 16 s) in
-        ap₂ (λ (m : ℕ) (l : List ℕ). agreeing (Exactly m) (readItems Any l)) (k ∙ size) body-part
+        rw (g .front, body-sealed (bodyOf h s) signature refl (g .sealed)) (ap₂ (λ (m : ℕ) (l : List ℕ). agreeing (Exactly m) (readItems Any l)) (k ∙ size) body-part)
 
 -- ---- the table
 
 pub table-refused : (s : List ℕ) (signature : ℕ) {r : ℕ} {t : LogItemBatch} → frontBatch s 0 ≡ refused r → t ≡ emptyTable r 0 → t ≡ readBatch s signature
 unfolding readBatch tableOf
-table-refused s signature e f = rw (sym (batch-refused s signature e)) f
+table-refused s signature e f = rw e f
 
 -- Where the front is right, the table is that of the body's reading, whose entry total is held to the block.
 table-of : (s : List ℕ) (signature : ℕ) {h : LogBatch} {q : ℕ} → frontBatch s 0 ≡ got h q
     → readBatch s signature ≡ tableOf (record { at = h .offset; len = h .len - h .offset }) (record { at = 16; len = h .offset - 16 })
     (agreeing (Exactly (h .offset - 16 - 4)) (readBody (bodyOf h s) signature))
-unfolding readBatch tableOf
-table-of s signature {h} {q} e = go (sealCheck (bodyOf h s) signature) refl
-  where
-    size : contentLength (blockOf h s) ≡ h .offset - 16 - 4
-    size = let g = front-known s e in omega (arith, g .start, g .inside, g .there, length-take (h .offset - 16) (drop 16 s), length-drop 16 s)
-
-    go : (n : ℕ) → n ≡ sealCheck (bodyOf h s) signature
-        → readBatch s signature ≡ tableOf (record { at = h .offset; len = h .len - h .offset }) (record { at = 16; len = h .offset - 16 })
-        (agreeing (Exactly (h .offset - 16 - 4)) (readBody (bodyOf h s) signature))
-    go zero k = rw (sym (batch-good s signature e k refl), body-sealed (bodyOf h s) signature k refl, size)
-    go (suc n) k =
-        let some : suc n ≡ 0 → ⊥ = λ z. omega arith in
-        rw (sym (batch-broken s signature e k some), body-refused (bodyOf h s) signature k some)
+unfolding readBatch
+table-of s signature {h} {q} e =
+    let g = front-known s e in
+    let size : contentLength (blockOf h s) ≡ h .offset - 16 - 4 =
+    omega (arith, g .start, g .inside, g .there, length-take (h .offset - 16) (drop 16 s), length-drop 16 s) in
+    rw (e, size)
 
 -- a table with other places
 abbrev pub withPlaces : Span → Span → LogItemBatch → LogItemBatch

@@ -1,4 +1,4 @@
--- A header, a block or a seal that is refused says why: the number of a batch's refusal is not 0, which stands for none.
+-- A header or a block that is refused says why: the number of a batch's refusal is not 0, which stands for none.
 -- Assumes nothing.
 use Prim.Native.Nat.{ℕ, zero, suc, _/_, _%_}
 use mathlib.Core.Path.{_≡_, refl, ap}
@@ -9,7 +9,7 @@ use borrow.Author.Tests.{ne-eqb, eqb-true}
 use lib.Dec.{leb, eqb}
 use lib.ListN.{length, take, drop}
 use Rattle.words.specs.Word.{bigEndian}
-use Rattle.seal.specs.Seal.{sealCheck, blockCheck}
+use Rattle.seal.specs.Seal.{blockCheck}
 use Rattle.field.specs.Got.{refused, done, _>>_}
 use Rattle.field.specs.declared.Span.{Span}
 use Rattle.log_item.specs.declared.LogItem.{LogItem}
@@ -21,7 +21,7 @@ use Rattle.item_batch.specs.Table.{tableOf}
 use Rattle.body_check.proofs.Refusing.{Says, gets, says, then, test}
 use Rattle.log_batch.specs.declared.LogBatch.{LogBatch}
 use Rattle.log_batch.specs.Header.{frame, header}
-use Rattle.log_batch.specs.Batch.{blockOf, bodyOf, passes, frontBatch, sealedBatch}
+use Rattle.log_batch.specs.Batch.{blockOf, passes, frontBatch}
 
 passes-says : (r : ℕ) (h : LogBatch) (p : ℕ) → Says (_>>_ (passes r) (done h) p)
 passes-says zero h p = gets
@@ -45,16 +45,12 @@ module _ (s : List ℕ) where
       then (header-says p) λ h q.
       test (leb (h .len) (length s)) 17 _ q (test (eqb (h .compression) 0) 18 _ q (passes-says (blockCheck (blockOf h s)) h q))
 
-  sealed-says : (signature p : ℕ) → Says (sealedBatch s signature p)
-  unfolding sealedBatch
-  sealed-says signature p = then (front-says p) λ h q. passes-says (sealCheck (bodyOf h s) signature) h q
-
 some : {r : ℕ} → Says {A = LogBatch} (refused r) → r ≡ 0 → ⊥
 some says z = omega arith
 
--- The number of a refused header, block or seal is not 0.
-pub sealed-some : (s : List ℕ) (signature : ℕ) {r : ℕ} → sealedBatch s signature 0 ≡ refused r → r ≡ 0 → ⊥
-sealed-some s signature e = some (rw e at (sealed-says s signature 0))
+-- The number of a refused header or block is not 0.
+pub front-some : (s : List ℕ) {r : ℕ} → frontBatch s 0 ≡ refused r → r ≡ 0 → ⊥
+front-some s e = some (rw e at (front-says s 0))
 
 -- A table whose number is 0 is that of an accepted answer with the entry total that is wanted, where the answer's own refusals have a number.
 module _ (body block : Span) (n : ℕ) where

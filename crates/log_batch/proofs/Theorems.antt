@@ -1,5 +1,6 @@
--- What document 01 says of bodies and whole batches, read and written, proved of the definitions that the contracts cite; and its worked examples.
--- What it says of numbers and words stands in the Theorems.antt of numbers and of words, of one item in log_item's Agree.antt.
+-- What document 01 says of bodies, read and written, and of whole batches written, proved of the definitions that the contracts cite; and its
+-- worked examples. What it says of whole batches read stands in Whole.antt, of numbers and words in the Theorems.antt of numbers and of words, of
+-- one item in log_item's Agree.antt.
 -- Assumes nothing.
 use Prim.Native.Nat.{ℕ, _+_, _-_, _≤_, _^_, _<_, suc}
 use mathlib.Core.Path.{_≡_, refl, ap, _∙_, sym}
@@ -18,7 +19,6 @@ use Rattle.words.specs.Byte.{Bytes}
 use Rattle.words.proofs.Words.{length-little}
 use Rattle.crc.specs.Crc.{crcOf}
 use Rattle.seal.specs.Seal.{sealedPart, contentLength}
-use Rattle.field.specs.Got.{got}
 use Rattle.field.specs.Reading.{byte, number, span}
 use Rattle.log_item.specs.Reading.{command, putAt, keyValue, firstIndex, entryIndexes, content, head, tail, tails, oneItem}
 use Rattle.field.specs.declared.Span.{Span}
@@ -39,7 +39,6 @@ use Rattle.body_check.specs.Total.{agreeing}
 use Rattle.body_check.specs.declared.BodyCheck.the-variants as check
 use Rattle.body_check.specs.declared.PlainForm.the-variants as plain
 use Rattle.body_check.specs.Answers.{checkOf, yesNo, plainBody}
-use Rattle.body_check.proofs.Refusing.{refusal-some}
 use Rattle.item_batch.specs.declared.LogItemBatch.{LogItemBatch}
 use Rattle.item_batch.specs.Table.{tableOf, emptyTable}
 use Rattle.item_batch.proofs.Tables.{in-table}
@@ -54,19 +53,17 @@ use Rattle.one_reading.proofs.Accepts.{of-accepted}
 use Rattle.one_reading.proofs.Listing.{complete, sound, items-joined, items-indexed}
 use Rattle.one_reading.proofs.One.{one-spelled}
 use Rattle.one_reading.proofs.Bodies.{sound-body, complete-body, sound-plain, complete-plain}
-use Rattle.one_reading.proofs.Written.{written-spelled, written-bytes, written-kept, read-back, other-signature, table-small, buffer-written, buffer-read-back}
+use Rattle.one_reading.proofs.Written.{written-spelled, written-kept, read-back, other-signature, table-small, buffer-written, buffer-read-back}
 use Rattle.one_reading.proofs.Encoding.{Encodes, writes, leaves}
 use Rattle.one_reading.proofs.ListWritten.{encodes}
 use Rattle.batch_front.specs.Front.{blockBytes, bodyOffset, batchEncoded}
 use Rattle.batch_front.proofs.Planning.{planned, verdict-of, refused-length}
-use Rattle.log_batch.specs.declared.LogBatch.{LogBatch}
-use Rattle.log_batch.specs.Header.{header}
-use Rattle.log_batch.specs.Batch.{blockOf, bodyOf, sealedBatch, readBatch}
+use Rattle.log_batch.specs.Batch.{blockOf, bodyOf, readBatch}
 use Rattle.log_batch.specs.Examples.{AllRight, table}
 use Rattle.log_batch.specs.Written.{framed, frameOf, BatchWritten}
 use Rattle.log_batch.proofs.Framing.{whole}
-use Rattle.log_batch.proofs.Again.{body-good, content-size, block-again, body-again, content-again, sealed-again}
-use Rattle.log_batch.proofs.Whole.{empty-refused, body-alone, accepted-batch, batch-accepted, past-same}
+use Rattle.log_batch.proofs.Again.{content-size, block-again, body-again, content-again, front-again}
+use Rattle.log_batch.proofs.Whole.{body-read}
 
 -- ---- bodies read
 
@@ -99,10 +96,6 @@ pub accepted-when : (body : List ℕ) (signature : ℕ)
     ↔ ((xs : List LogItem) × (rows : List EntryIndex) × (u : ℕ) × (bytes : List ℕ) × Acceptable body signature xs rows u bytes)
 accepted-when body signature =
     (λ h. let b = sound-body body signature (h .4) in (h .0, h .1, h .2, b .0, b .1), λ h. (h .0, h .1, h .2, length (h .3), complete-body body signature (h .4)))
-
--- The number of a refused body is never 0, which stands for no refusal.
-pub refused-number : (body : List ℕ) (signature : ℕ) {r i : ℕ} → readBody body signature ≡ rejected r i → r ≡ 0 → ⊥
-refused-number body signature e = refusal-some body signature e
 
 -- In a body other bytes between the last item and the footer change nothing either, where the footer is right for them.
 pub body-tail-ignored : (body : List ℕ) (signature : ℕ) {xs : List LogItem} {rows : List EntryIndex} {u q : ℕ} → readBody body signature ≡ accepted xs rows u q
@@ -172,7 +165,7 @@ module _ (body block : Span) where
   unfolding tableOf
   check-refused r i = refl
 
--- ---- whole batches read
+-- ---- the worked examples, and tables
 
 -- Document 01's worked examples hold of the definitions, by computation.
 pub table-right : AllRight table
@@ -232,29 +225,6 @@ pub refused-empty : (body block : Span) (r i : ℕ) → tableOf body block (reje
 unfolding tableOf
 refused-empty body block r i = refl
 
--- So does a refused reading of a whole batch: what it hands back is the empty table with its number and item.
-pub refused-batch-empty : (s : List ℕ) (signature : ℕ) → let t = readBatch s signature in (t .refusal .number ≡ 0 → ⊥) → t ≡ emptyTable (t .refusal .number) (t .refusal .item)
-refused-batch-empty s signature h = empty-refused s signature h
-
--- The body of a whole batch is read as it is by itself; then its entry total is held to the block's content.
-pub body-read : (s : List ℕ) (signature : ℕ) {h : LogBatch} {q : ℕ} → sealedBatch s signature 0 ≡ got h q
-    → readBatch s signature ≡ tableOf (record { at = h .offset; len = h .len - h .offset }) (record { at = 16; len = h .offset - 16 })
-    (agreeing (Exactly (contentLength (blockOf h s))) (readBody (bodyOf h s) signature))
-body-read s signature e = body-alone s signature e
-
--- A whole batch is accepted, so that its number is 0, exactly when header, block and seal are right and its body is accepted with an entry total
--- that is the length of the block's content.
-pub batch-exactly : (s : List ℕ) (signature : ℕ)
-    → (readBatch s signature .refusal .number ≡ 0)
-    ↔ ((h : LogBatch) × (q : ℕ) × (sealedBatch s signature 0 ≡ got h q)
-    × ((xs : List LogItem) × (rows : List EntryIndex) × (p : ℕ) × (readBody (bodyOf h s) signature ≡ accepted xs rows (contentLength (blockOf h s)) p)))
-batch-exactly s signature = (λ z. accepted-batch s signature (sealedBatch s signature 0) refl z, λ k. batch-accepted s signature (k .2) (k .3 .3))
-
--- Bytes past the length are not looked at.
-pub past-ignored : (a t : List ℕ) (signature : ℕ) {h : LogBatch} {q : ℕ} → header a 0 ≡ got h q → h .len ≡ length a
-    → readBatch (a ++ t) signature ≡ readBatch a signature
-past-ignored a t signature e whole = past-same a t signature e whole
-
 -- ---- bodies written
 
 -- What is written of a table is spelled, with shortest numbers, by its list with its places worked out.
@@ -283,7 +253,7 @@ module _ (checked : Bool) (t : LogItemBatch) (s : List ℕ) (signature : ℕ) (o
 -- ---- whole batches written
 
 -- Where the whole-batch writer answers a length, the batch stands at the start of the buffer, and behind it what stood there before. Its content
--- stands after the header. Where content and items are bytes, all below 256, the batch reads as its body does by itself, with the entry total
+-- stands after the header. Where the content is bytes, all below 256, the batch reads as its body does by itself, with the entry total
 -- held to the content.
 module _ {checked : Bool} {xs : List LogItem} {ns s content : List ℕ} {signature : ℕ} {out : List ℕ} {r : Encoded} {later : List ℕ}
     (w : BatchWritten checked xs ns s content signature out r later) (h : r .length ≡ 0 → ⊥) where
@@ -296,20 +266,20 @@ module _ {checked : Bool} {xs : List LogItem} {ns s content : List ℕ} {signatu
   pub content-stands : take (length content) (drop 16 later) ≡ content
   content-stands = rw batch-stands (content-again content body (drop (r .length) out))
 
-  pub written-read : Bytes content → Bytes (listBytes s xs ns) → signature < 2 ^ 32
+  pub written-read : Bytes content
       → readBatch later signature
       ≡ tableOf (record { at = bodyOffset content; len = length (bodyBytes s xs ns signature) })
       (record { at = 16; len = length (blockBytes content) })
       (agreeing (Exactly (length content)) (readBody (bodyBytes s xs ns signature) signature))
-  written-read bytes items key =
+  written-read bytes =
       let t : List ℕ = drop (r .length) out in
       let k = whole w h in
       let long : bodyOffset content + length body - bodyOffset content ≡ length body = omega arith in
       let block : bodyOffset content - 16 ≡ length (blockBytes content) = omega arith in
       let size : contentLength (blockOf (frameOf content body) (framed content body ++ t)) ≡ length content =
       ap contentLength (block-again content body t) ∙ content-size content in
-      let sealed = sealed-again content body t (rw (k .size) at (k .few)) signature bytes (body-good s xs ns signature items key) in
-      ap (λ (l : List ℕ). readBatch l signature) batch-stands ∙ body-read (framed content body ++ t) signature sealed
+      let front = front-again content body t (rw (k .size) at (k .few)) bytes in
+      ap (λ (l : List ℕ). readBatch l signature) batch-stands ∙ body-read (framed content body ++ t) signature front
       ∙ (rw (size, body-again content body t, long, block))
 
   -- Reading a written batch gives the list with its places worked out, its rows, and the content's length as the entry total. The numbers of
@@ -326,9 +296,8 @@ module _ {checked : Bool} {xs : List LogItem} {ns s content : List ℕ} {signatu
         (record { at = 16; len = length (blockBytes content) })
         (accepted (bodyItems s xs ns) (bodyRows xs ns) (length content) (length (listBytes s xs ns)))
     batch-read-back store bytes key =
-        let items : Bytes (listBytes s xs ns) = written-bytes s checked xs ns (length content) small fine-total store in
         let read = read-back s checked xs ns (length content) small fine-total store signature key in
-        written-read bytes items key ∙ (rw (read, eq-eqb (length content) (length content) refl))
+        written-read bytes ∙ (rw (read, eq-eqb (length content) (length content) refl))
 
     -- Each key and content has, in the body of the written batch, the bytes that it had.
     pub batch-kept : keysAndContents (bodyOf (frameOf content body) later) (bodyItems s xs ns) ≡ keysAndContents s xs

@@ -5,13 +5,13 @@ use mathlib.Core.List.{List}
 use lib.Dec.{leb, eqb}
 use lib.ListN.{length, take, drop}
 use Rattle.field.specs.Got.{Got, got, refused, Reading, done, _>>=_, _>>_, Test, _else_}
-use Rattle.field.specs.declared.Form.the-variants.{Any}
 use Rattle.field.specs.declared.Span.{Span}
 use Rattle.item_batch.specs.declared.LogItemBatch.{LogItemBatch}
 use Rattle.body_check.specs.declared.Wanted.the-variants.{Exactly}
-use Rattle.body_check.specs.Reading.{Answer, rejected, readItems}
-use Rattle.seal.specs.Seal.{sealedPart, sealCheck, blockCheck, contentLength}
+use Rattle.body_check.specs.Reading.{Answer, rejected}
+use Rattle.body_check.specs.Body.{readBody}
 use Rattle.body_check.specs.Total.{agreeing}
+use Rattle.seal.specs.Seal.{sealCheck, blockCheck, contentLength}
 use Rattle.item_batch.specs.Table.{tableOf}
 use Rattle.log_batch.specs.declared.LogBatch.{LogBatch}
 use Rattle.log_batch.specs.Header.{header}
@@ -27,7 +27,7 @@ bodyOf h s = take (h .len - h .offset) (drop (h .offset) s)
 abbrev pub passes : ℕ → Test
 passes r = eqb r 0 else r
 
--- the frame of a batch, up to its block
+-- header, 18, 19, block: the frame of a batch
 unfoldable pub frontBatch : List ℕ → Reading LogBatch
 frontBatch s = do
   h ← header s
@@ -36,19 +36,12 @@ frontBatch s = do
   passes (blockCheck (blockOf h s))
   done h
 
--- and the checksum of its body
-unfoldable pub sealedBatch : List ℕ → ℕ → Reading LogBatch
-sealedBatch s signature = do
-  h ← frontBatch s
-  passes (sealCheck (bodyOf h s) signature)
-  done h
+-- then the body, read as it is by itself, and 20 where its entries do not come to the block's content
+abbrev pub batchAnswer : List ℕ → ℕ → Got LogBatch → Answer
+batchAnswer s signature (got h q) = agreeing (Exactly (contentLength (blockOf h s))) (readBody (bodyOf h s) signature)
+batchAnswer s signature (refused r) = rejected r 0
 
--- what a batch comes to: its items, where their entries come to the block's content, else 20
-abbrev pub batchAnswer : List ℕ → Got LogBatch → Answer
-batchAnswer s (got h q) = agreeing (Exactly (contentLength (blockOf h s))) (readItems Any (sealedPart (bodyOf h s)))
-batchAnswer s (refused r) = rejected r 0
-
--- where its body and its block stand
+-- where body and block stand
 abbrev pub bodyPlace : Got LogBatch → Span
 bodyPlace (got h q) = record { at = h .offset; len = h .len - h .offset }
 bodyPlace (refused r) = record { at = 0; len = 0 }
@@ -57,9 +50,13 @@ abbrev pub blockPlace : Got LogBatch → Span
 blockPlace (got h q) = record { at = 16; len = h .offset - 16 }
 blockPlace (refused r) = record { at = 0; len = 0 }
 
--- its table
-abbrev pub batchTable : List ℕ → Got LogBatch → LogItemBatch
-batchTable s g = tableOf (bodyPlace g) (blockPlace g) (batchAnswer s g)
-
+-- the table of the whole
 unfoldable pub readBatch : List ℕ → ℕ → LogItemBatch
-readBatch s signature = batchTable s (sealedBatch s signature 0)
+readBatch s signature = let g = frontBatch s 0 in tableOf (bodyPlace g) (blockPlace g) (batchAnswer s signature g)
+
+-- for a reading of the body that follows: the frame of a batch whose body has the right checksum too
+unfoldable pub sealedBatch : List ℕ → ℕ → Reading LogBatch
+sealedBatch s signature = do
+  h ← frontBatch s
+  passes (sealCheck (bodyOf h s) signature)
+  done h

@@ -10,7 +10,7 @@ use Rattle.body_check.specs.declared.BodyCheck.the-variants.{Accepted, Refused}
 use Rattle.body_check.specs.Reading.{Answer}
 use Rattle.rows_reader.specs.Lent.{RowsRead}
 use Rattle.batch_rows.specs.declared.BatchCheck.{BatchCheck}
-use Rattle.log_batch.specs.Batch.{sealedBatch, bodyPlace, blockPlace}
+use Rattle.log_batch.specs.Batch.{frontBatch, bodyPlace, blockPlace}
 use Rattle.batch_rows.specs.Rows.{placeIf, BatchReadInto}
 use Rattle.item_row.specs.Reply.{Reply, reply}
 use Rattle.raft_log.specs.Answers.{checkReply}
@@ -38,7 +38,7 @@ places (Refused r) body block = refl
 pub batch-replied : {s : List ℕ} {signature : ℕ} {items entries later more : List ℕ} {b : BatchCheck} {r : Reply}
     → BatchReadInto s signature items entries b later more → r ≡ batchReply (b .check) (b .body) (b .block) → BatchRowsRead s signature items entries r later more
 batch-replied {s} {signature} {b = b} w e =
-    let g = sealedBatch s signature 0 in
+    let g = frontBatch s 0 in
     record {
       answer =
           e ∙ (rw (w .body, w .block) (places (b .check) (bodyPlace g) (blockPlace g))) ∙ ap (λ (c : BodyCheck). batchReply c (bodyPlace g) (blockPlace g)) (w .rows .answer);

@@ -10,7 +10,7 @@ use Rattle.body_check.specs.declared.BodyCheck.the-variants.{Accepted, Refused}
 use Rattle.body_check.specs.Reading.{Answer}
 use Rattle.body_check.specs.Answers.{checkOf}
 use Rattle.rows_reader.specs.Lent.{fitting, Filled}
-use Rattle.log_batch.specs.Batch.{sealedBatch, batchAnswer, bodyPlace, blockPlace}
+use Rattle.log_batch.specs.Batch.{frontBatch, batchAnswer, bodyPlace, blockPlace}
 use Rattle.item_row.specs.Reply.{Reply, reply}
 use Rattle.raft_log.specs.Answers.{checkReply}
 
@@ -26,9 +26,9 @@ batchReply (Accepted items entries total next) body block =
 batchReply (Refused r) body block = reply (r .number) (r .item ∷ 0 ∷ 0 ∷ 0 ∷ 0 ∷ 0 ∷ 0 ∷ 0 ∷ 0 ∷ [])
 
 abbrev pub batchFitting : List ℕ → ℕ → List ℕ → List ℕ → Answer
-batchFitting s signature items entries = fitting (length items) (length entries) (batchAnswer s (sealedBatch s signature 0))
+batchFitting s signature items entries = fitting (length items) (length entries) (batchAnswer s signature (frontBatch s 0))
 
 -- the reply r to the reading of a batch
 pub record BatchRowsRead (s : List ℕ) (signature : ℕ) (items entries : List ℕ) (r : Reply) (later more : List ℕ) : Type 0 where
-  pub answer : r ≡ batchReply (checkOf (batchFitting s signature items entries)) (bodyPlace (sealedBatch s signature 0)) (blockPlace (sealedBatch s signature 0))
+  pub answer : r ≡ batchReply (checkOf (batchFitting s signature items entries)) (bodyPlace (frontBatch s 0)) (blockPlace (frontBatch s 0))
   pub rows : Filled (batchFitting s signature items entries) items entries later more
