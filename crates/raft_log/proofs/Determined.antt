@@ -1,9 +1,17 @@
 -- No second answer: two results, and two later contents of what is lent, that meet one contract are equal.
 -- Assumes nothing.
-use mathlib.Core.Path.{_≡_, sym, _∙_}
+use Prim.Native.Nat.{ℕ}
+use mathlib.Core.Path.{_≡_, sym, ap, _∙_}
+use mathlib.Core.List.{List}
 use denote.Ref.{now}
 use Rattle.one_answer.specs.OneAnswer.{OneAnswer}
+use Rattle.item_row.specs.Reply.{Reply, reply}
 use Rattle.item_row.proofs.Replies.{same}
+use Rattle.batch_rows.specs.declared.BatchCheck.{BatchCheck}
+use Rattle.batch_rows.specs.Rows.{BatchReadInto}
+use Rattle.raft_log.specs.Answers.{Replied, checkReply, batchReply}
+use Rattle.raft_log.specs.Locations.{rewriteReply}
+use Rattle.raft_log.specs.RowsWritten.{writtenReply}
 use Rattle.raft_log.proofs.raft_log_crc32.Kinds as crc32-kinds
 use Rattle.raft_log.proofs.raft_log_crc32.Reads as crc32-reads
 use Rattle.raft_log.proofs.raft_log_read_number.Kinds as read-number-kinds
@@ -33,6 +41,17 @@ use Rattle.raft_log.proofs.locations.raft_log_rewrite.Reads as rewrite-
 use Rattle.raft_log.proofs.locations.raft_log_fetch.Kinds as fetch-kinds
 use Rattle.raft_log.proofs.locations.raft_log_fetch.Reads as fetch-reads
 
+-- Two replies for answers that are replied alike.
+same-replied : {A : Type 0} {P Q : A → Type 0} {f : A → Reply} {m n : ℕ} {v w : List ℕ} (p : Replied P f (reply m v)) (q : Replied Q f (reply n w))
+    → f (p .answer) ≡ f (q .answer) → (m ≡ n) × (v ≡ w)
+same-replied p q e = same (p .replied ∙ e) (q .replied)
+
+-- Two answers to the reading of a batch are replied alike.
+same-batch : {s : List ℕ} {signature : ℕ} {items entries later more later' more' : List ℕ} {b d : BatchCheck}
+    → BatchReadInto s signature items entries b later more → BatchReadInto s signature items entries d later' more'
+    → batchReply (b .check) (b .body) (b .block) ≡ batchReply (d .check) (d .body) (d .block)
+same-batch v w = cc
+
 pub crc32 : OneAnswer 1 crc32-kinds.ps crc32-kinds.r crc32-reads.Post (λ κs x y s t. x ≡ y)
 crc32 κs a x y s t p q = p ∙ sym q
 
@@ -61,14 +80,18 @@ status κs a x y s t p q = same p q
 pub read-body : OneAnswer 4 read-body-kinds.ps read-body-kinds.r read-body-reads.Post
     (λ κs x y s t. (x ≡ y) × (now (s .1 .1 .1 .1 .0) ≡ now (t .1 .1 .1 .1 .0)) × (now (s .1 .1 .0) ≡ now (t .1 .1 .0)) × (now (s .1 .1 .1 .0) ≡ now (t .1 .1 .1 .0)))
 read-body κs a x y s t p q =
-    let e = same (p .answer) (q .answer) in
-    (e .0, e .1, p .rows .item-rows ∙ sym (q .rows .item-rows), p .rows .entry-rows ∙ sym (q .rows .entry-rows))
+    let v = p .promised in
+    let w = q .promised in
+    let e = same-replied p q (ap checkReply (v .answer ∙ sym (w .answer))) in
+    (e .0, e .1, v .rows .item-rows ∙ sym (w .rows .item-rows), v .rows .entry-rows ∙ sym (w .rows .entry-rows))
 
 pub read-batch : OneAnswer 4 read-batch-kinds.ps read-batch-kinds.r read-batch-reads.Post
     (λ κs x y s t. (x ≡ y) × (now (s .1 .1 .1 .1 .0) ≡ now (t .1 .1 .1 .1 .0)) × (now (s .1 .1 .0) ≡ now (t .1 .1 .0)) × (now (s .1 .1 .1 .0) ≡ now (t .1 .1 .1 .0)))
 read-batch κs a x y s t p q =
-    let e = same (p .answer) (q .answer) in
-    (e .0, e .1, p .rows .item-rows ∙ sym (q .rows .item-rows), p .rows .entry-rows ∙ sym (q .rows .entry-rows))
+    let v = p .promised in
+    let w = q .promised in
+    let e = same-replied p q (same-batch v w) in
+    (e .0, e .1, v .rows .rows .item-rows ∙ sym (w .rows .rows .item-rows), v .rows .rows .entry-rows ∙ sym (w .rows .rows .entry-rows))
 
 pub write-body : OneAnswer 5 write-body-kinds.ps write-body-kinds.r write-body-reads.Post
     (λ κs x y s t. (x ≡ y) × (now (s .1 .1 .1 .1 .1 .1 .0) ≡ now (t .1 .1 .1 .1 .1 .1 .0)) × (now (s .1 .1 .1 .1 .1 .0) ≡ now (t .1 .1 .1 .1 .1 .0)))
@@ -76,11 +99,16 @@ write-body κs a x y s t p q = let e = same (p .answer) (q .answer) in (e .0, e 
 
 pub write-batch : OneAnswer 6 write-batch-kinds.ps write-batch-kinds.r write-batch-reads.Post
     (λ κs x y s t. (x ≡ y) × (now (s .1 .1 .1 .1 .1 .1 .1 .0) ≡ now (t .1 .1 .1 .1 .1 .1 .1 .0)) × (now (s .1 .1 .1 .1 .1 .1 .0) ≡ now (t .1 .1 .1 .1 .1 .1 .0)))
-write-batch κs a x y s t p q = let e = same (p .answer) (q .answer) in (e .0, e .1, p .written ∙ sym (q .written))
+write-batch κs a x y s t p q =
+    let k : p .answer ≡ q .answer = p .promised .answer ∙ sym (q .promised .answer) in
+    let e = same-replied p q (ap writtenReply k) in
+    (e .0, e .1, p .promised .written ∙ (rw k (sym (q .promised .written))))
 
 pub rewrite : OneAnswer 3 rewrite-kinds.ps rewrite-kinds.r rewrite-reads.Post
     (λ κs x y s t. (x ≡ y) × (now (s .1 .1 .1 .1 .1 .1 .1 .0) ≡ now (t .1 .1 .1 .1 .1 .1 .1 .0)) × (now (s .0) ≡ now (t .0)))
-rewrite κs a x y s t p q = let e = same (p .answer) (q .answer) in (e .0, e .1, p .after ∙ sym (q .after))
+rewrite κs a x y s t p q =
+    let e = same-replied p q (ap rewriteReply (p .promised .answer ∙ sym (q .promised .answer))) in
+    (e .0, e .1, p .promised .after ∙ sym (q .promised .after))
 
 pub fetch : OneAnswer 2 fetch-kinds.ps fetch-kinds.r fetch-reads.Post (λ κs x y s t. (x ≡ y) × (now (s .1 .1 .1 .1 .0) ≡ now (t .1 .1 .1 .1 .0)))
 fetch κs a x y s t p q = same p q

@@ -5,6 +5,8 @@ use mathlib.Core.Path.{_≡_, refl, sym, ap, _∙_}
 use mathlib.Core.List.{List, [], _∷_}
 use borrow.Author.Tests.{ne-eqb}
 use lib.ListN.{getD}
+use Rattle.refusal.specs.declared.Refusal.{Refusal}
+use Rattle.field.specs.declared.Span.{Span}
 use Rattle.log_item.specs.declared.LogItem.{LogItem}
 use Rattle.item_row.specs.declared.ItemRowRead.{ItemRowRead}
 use Rattle.item_row.specs.declared.ItemRowRead.the-variants.{Item, Refused}
@@ -14,8 +16,10 @@ use Rattle.atomic_status.specs.declared.StatusRead.{StatusRead}
 use Rattle.atomic_status.specs.declared.StatusRead.the-variants.{Mark}
 use Rattle.atomic_status.specs.Status.{statusOf}
 use Rattle.entry_view.specs.View.{entryCheck}
+use Rattle.body_check.specs.declared.BodyCheck.{BodyCheck}
+use Rattle.body_check.specs.declared.BodyCheck.the-variants as check
 use Rattle.item_row.specs.Reply.{Reply, reply}
-use Rattle.raft_log.specs.Answers.{queueCheck, viewReply, viewOf, markWord, statusReply, rowStatus}
+use Rattle.raft_log.specs.Answers.{batchReply, queueCheck, viewReply, viewOf, markWord, statusReply, rowStatus}
 
 -- A mark and its group are replied.
 pub marked : {s : StatusRead} {group m : ℕ} {mark : AtomicGroupStatus} → s ≡ Mark group mark → m ≡ markWord mark → reply 0 (m ∷ group ∷ []) ≡ statusReply s
@@ -24,6 +28,16 @@ marked e h = rw (e, h)
 -- The word of a mark that is known.
 pub mark-word : {mark d : AtomicGroupStatus} {m : ℕ} → mark ≡ d → m ≡ markWord d → m ≡ markWord mark
 mark-word e h = rw e h
+
+-- ---- a batch
+
+pub batch-accepted : {c : BodyCheck} {m n u q : ℕ} (body block : Span) → c ≡ check.Accepted m n u q
+    → reply 0 (0 ∷ m ∷ n ∷ u ∷ q ∷ body .at ∷ body .len ∷ block .at ∷ block .len ∷ []) ≡ batchReply c body block
+batch-accepted body block e = rw e
+
+pub batch-refused : {c : BodyCheck} {r : Refusal} (body block : Span) → c ≡ check.Refused r
+    → reply (r .number) (r .item ∷ 0 ∷ 0 ∷ 0 ∷ 0 ∷ 0 ∷ 0 ∷ 0 ∷ 0 ∷ []) ≡ batchReply c body block
+batch-refused body block e = rw e
 
 -- ---- the block that a queue names
 

@@ -7,9 +7,7 @@ use mathlib.Core.List.{List}
 use Rattle.list_writer.specs.declared.Encoded.{Encoded}
 use Rattle.list_writer.specs.Answers.{laid, MeasuredWritten}
 use Rattle.rows_writer.specs.Rows.{measureRows, rowsBytes}
-use Rattle.log_batch.specs.Written.{framed}
-use Rattle.batch_rows.specs.Rows.{BatchWrittenFrom}
-use Rattle.raft_log.specs.RowsWritten.{writtenReply, BodyRowsWritten, BatchRowsWritten}
+use Rattle.raft_log.specs.RowsWritten.{writtenReply, BodyRowsWritten}
 
 module _ {checked : Bool} {items entries store : List ℕ} {signature : ℕ} {out later : List ℕ} {e : Encoded} where
   pub body-replied : MeasuredWritten (measureRows store checked items entries) (rowsBytes store items entries signature) out 0 e later
@@ -18,12 +16,4 @@ module _ {checked : Bool} {items entries store : List ℕ} {signature : ℕ} {ou
       record {
         answer = ap writtenReply (w .answer);
         written = w .written ∙ ap (λ (x : Encoded). laid x out 0 (rowsBytes store items entries signature)) (w .answer);
-      }
-
-  pub batch-replied : {content : List ℕ} → BatchWrittenFrom checked items entries store content signature out e later
-      → BatchRowsWritten checked items entries store content signature out (writtenReply e) later
-  batch-replied {content} w =
-      record {
-        answer = ap writtenReply (w .answer);
-        written = w .written ∙ ap (λ (x : Encoded). laid x out 0 (framed content (rowsBytes store items entries signature))) (w .answer);
       }

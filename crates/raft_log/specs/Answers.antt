@@ -1,12 +1,15 @@
 -- The reply for each answer of the crates below: a refusal has its number, and 0 in each word but the item's.
 -- Assumes nothing.
-use Prim.Native.Nat.{ℕ, zero, suc}
+use Prim.Native.Nat.{ℕ}
+use mathlib.Core.Path.{_≡_}
 use mathlib.Core.Bool.{cond}
 use mathlib.Core.List.{List, [], _∷_}
 use lib.Dec.{eqb}
 use lib.ListN.{getD}
+use Rattle.refusal.specs.First.{ifNone}
 use Rattle.words.specs.declared.Wrote.{Wrote}
 use Rattle.words.specs.declared.Wrote.the-variants as wrote
+use Rattle.field.specs.declared.Span.{Span}
 use Rattle.field.specs.Got.{Got, got, refused}
 use Rattle.item_row.specs.declared.ItemRowRead.{ItemRowRead}
 use Rattle.item_row.specs.declared.ItemRowRead.the-variants as row
@@ -22,6 +25,12 @@ use Rattle.atomic_status.specs.declared.StatusRead.the-variants as status
 use Rattle.atomic_status.specs.Status.{statusOf}
 use Rattle.entry_view.specs.View.{entryCheck}
 use Rattle.item_row.specs.Reply.{Reply, reply}
+
+-- r replies an answer that keeps the promise of the function below
+pub record Replied {A : Type 0} (Promised : A → Type 0) (replyOf : A → Reply) (r : Reply) : Type 0 where
+  pub answer : A
+  pub promised : Promised answer
+  pub replied : r ≡ replyOf answer
 
 -- the number, the place after it
 abbrev pub numberReply : Got ℕ → Reply
@@ -43,6 +52,12 @@ abbrev pub checkReply : BodyCheck → Reply
 checkReply (check.Accepted items entries total next) = reply 0 (0 ∷ items ∷ entries ∷ total ∷ next ∷ [])
 checkReply (check.Refused r) = reply (r .number) (r .item ∷ 0 ∷ 0 ∷ 0 ∷ 0 ∷ [])
 
+-- as for a body, and place and length of the body and of the block
+abbrev pub batchReply : BodyCheck → Span → Span → Reply
+batchReply (check.Accepted items entries total next) body block =
+    reply 0 (0 ∷ items ∷ entries ∷ total ∷ next ∷ body .at ∷ body .len ∷ block .at ∷ block .len ∷ [])
+batchReply (check.Refused r) body block = reply (r .number) (r .item ∷ 0 ∷ 0 ∷ 0 ∷ 0 ∷ 0 ∷ 0 ∷ 0 ∷ 0 ∷ [])
+
 -- item of a refusal, 1 yes or 0 no
 abbrev pub plainReply : PlainForm → Reply
 plainReply plain.Yes = reply 0 (0 ∷ 1 ∷ [])
@@ -56,15 +71,14 @@ queueCheck queue long offset len append rewrite =
 
 -- place, length
 abbrev pub viewReply : ℕ → ℕ → ℕ → Reply
-viewReply zero offset len = reply 0 (offset ∷ len ∷ [])
-viewReply (suc r) offset len = reply (suc r) (0 ∷ 0 ∷ [])
+viewReply r offset len = ifNone r (reply 0 (offset ∷ len ∷ [])) (reply r (0 ∷ 0 ∷ []))
 
 -- the same of a location row
 unfoldable pub viewOf : List ℕ → List ℕ → List ℕ → Reply
 viewOf row append rewrite =
     viewReply (queueCheck (getD row 0 0) (getD row 3 0) (getD row 4 0) (getD row 5 0) append rewrite) (getD row 4 0) (getD row 5 0)
 
--- 1 begin, 2 middle, 3 end
+-- 01's status byte plus 1, since 0 is no mark: 1 begin, 2 middle, 3 end
 abbrev pub markWord : AtomicGroupStatus → ℕ
 markWord Begin = 1
 markWord Middle = 2

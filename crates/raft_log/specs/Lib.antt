@@ -1,4 +1,3 @@
 pub mod Answers
-pub mod RowsRead
 pub mod RowsWritten
 pub mod Locations

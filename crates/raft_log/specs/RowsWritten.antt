@@ -1,4 +1,4 @@
--- The replies of the writers from lent rows, and what the buffer holds afterwards.
+-- The reply of the writers from lent rows, and what the buffer holds after a body is written.
 -- Assumes nothing.
 use Prim.Native.Nat.{ℕ}
 use mathlib.Core.Path.{_≡_}
@@ -7,8 +7,6 @@ use mathlib.Core.List.{List, [], _∷_}
 use Rattle.list_writer.specs.declared.Encoded.{Encoded}
 use Rattle.list_writer.specs.Answers.{encodedOf, laid}
 use Rattle.rows_writer.specs.Rows.{measureRows, rowsBytes}
-use Rattle.log_batch.specs.Written.{framed}
-use Rattle.batch_rows.specs.Rows.{rowsEncoded}
 use Rattle.item_row.specs.Reply.{Reply, reply}
 
 -- item of a refusal, length
@@ -22,8 +20,3 @@ bodyEncoded checked items entries store out = encodedOf (measureRows store check
 pub record BodyRowsWritten (checked : Bool) (items entries store : List ℕ) (signature : ℕ) (out : List ℕ) (r : Reply) (later : List ℕ) : Type 0 where
   pub answer : r ≡ writtenReply (bodyEncoded checked items entries store out)
   pub written : later ≡ laid (bodyEncoded checked items entries store out) out 0 (rowsBytes store items entries signature)
-
--- the same for a batch; out as it was where nothing is written
-pub record BatchRowsWritten (checked : Bool) (items entries store content : List ℕ) (signature : ℕ) (out : List ℕ) (r : Reply) (later : List ℕ) : Type 0 where
-  pub answer : r ≡ writtenReply (rowsEncoded checked items entries store content out)
-  pub written : later ≡ laid (rowsEncoded checked items entries store content out) out 0 (framed content (rowsBytes store items entries signature))

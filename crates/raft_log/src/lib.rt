@@ -13,10 +13,9 @@ pub use writing::raft_log_write_batch;
 pub use writing::raft_log_write_body;
 ghost use mathlib.Core.Path.{_≡_};
 ghost use Rattle.crc.specs.Crc.{crcOf};
-ghost use Rattle.numbers.specs.Number.{readNumber};
 ghost use Rattle.numbers.specs.Shortest.{shortest};
 ghost use Rattle.words.specs.Write.{wroteAt, placed};
-ghost use Rattle.field.specs.Reading.{numberGot};
+ghost use Rattle.field.specs.Reading.{anyNumber};
 ghost use Rattle.item_row.specs.Row.{itemOfRow};
 ghost use Rattle.body_check.specs.Body.{readBody};
 ghost use Rattle.body_check.specs.Answers.{checkOf, plainBody};
@@ -44,7 +43,7 @@ pub extern "C" fn raft_log_crc32(data: &[u8]) -> u32
 // The number at a place, and the place after it.
 #[no_mangle]
 pub extern "C" fn raft_log_read_number(data: &[u8], at: usize, answer: &mut [u64; 2]) -> u32
-    ensures { λ r. ⌜ reply r (now (answer .exit)) ≡ numberReply (numberGot (readNumber (now («data» .entry)) at)) ⌝ }
+    ensures { λ r. ⌜ reply r (now (answer .exit)) ≡ numberReply (anyNumber (now («data» .entry)) at) ⌝ }
 {
     match codec::decode_var_u64_unrolled(data, at) {
         NumberRead::Done { value, next } => {

@@ -1,8 +1,9 @@
 // The rewrite and the fetch of locations, on rows of words that the caller lends.
 ghost use mathlib.Core.Path.{_≡_};
-ghost use Rattle.location_rows.specs.Answers.{tableFrom, fetchWords};
+ghost use Rattle.location_rows.specs.Answers.{tableFrom, RowsRewritten, fetchWords};
 ghost use Rattle.item_row.specs.Reply.{reply};
-ghost use Rattle.raft_log.specs.Locations.{gateOf, fetchReply, RewriteReplied};
+ghost use Rattle.raft_log.specs.Answers.{Replied};
+ghost use Rattle.raft_log.specs.Locations.{gateOf, rewriteReply, fetchReply};
 use location_rules::Gate;
 
 // Replaces rows of a location table by incoming ones.
@@ -17,7 +18,7 @@ pub extern "C" fn raft_log_rewrite(
     gate: u64,
     answer: &mut [u64; 2],
 ) -> u32
-    ensures { λ r. ⌜ RewriteReplied (now (table .entry)) (tableFrom «first_index» rewritten) (now (incoming .entry)) «incoming_first» (gateOf «with_gate» gate) (reply r (now (answer .exit))) (now (table .exit)) ⌝ }
+    ensures { λ r. ⌜ Replied (λ a. RowsRewritten (now (table .entry)) (tableFrom «first_index» rewritten) (now (incoming .entry)) «incoming_first» (gateOf «with_gate» gate) a (now (table .exit))) rewriteReply (reply r (now (answer .exit))) ⌝ }
 {
     let g = if with_gate {
         Gate::Given(gate)

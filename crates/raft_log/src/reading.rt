@@ -1,8 +1,10 @@
 // Bodies and batches, read into rows of words that the caller lends.
 ghost use mathlib.Core.Path.{_≡_};
 ghost use Rattle.body_check.specs.Body.{readBody};
+ghost use Rattle.rows_reader.specs.Lent.{RowsRead};
+ghost use Rattle.batch_rows.specs.Rows.{BatchReadInto};
 ghost use Rattle.item_row.specs.Reply.{reply};
-ghost use Rattle.raft_log.specs.RowsRead.{BodyRowsRead, batchReply, BatchRowsRead};
+ghost use Rattle.raft_log.specs.Answers.{Replied, checkReply, batchReply};
 use crate::put_check;
 use batch_rows::BatchCheck;
 use body_check::BodyCheck;
@@ -16,7 +18,7 @@ pub extern "C" fn raft_log_read_body(
     entries: &mut [u64],
     answer: &mut [u64; 5],
 ) -> u32
-    ensures { λ r. ⌜ BodyRowsRead (readBody (now (body .entry)) signature) (now (items .entry)) (now (entries .entry)) (reply r (now (answer .exit))) (now (items .exit)) (now (entries .exit)) ⌝ }
+    ensures { λ r. ⌜ Replied (λ a. RowsRead (readBody (now (body .entry)) signature) (now (items .entry)) (now (entries .entry)) a (now (items .exit)) (now (entries .exit))) checkReply (reply r (now (answer .exit))) ⌝ }
 {
     let r = rows_reader::read_body(body, signature, items, entries);
     put_check(r, answer)
@@ -31,7 +33,7 @@ pub extern "C" fn raft_log_read_batch(
     entries: &mut [u64],
     answer: &mut [u64; 9],
 ) -> u32
-    ensures { λ r. ⌜ BatchRowsRead (now («data» .entry)) signature (now (items .entry)) (now (entries .entry)) (reply r (now (answer .exit))) (now (items .exit)) (now (entries .exit)) ⌝ }
+    ensures { λ r. ⌜ Replied (λ a. BatchReadInto (now («data» .entry)) signature (now (items .entry)) (now (entries .entry)) a (now (items .exit)) (now (entries .exit))) (λ a. batchReply (a .check) (a .body) (a .block)) (reply r (now (answer .exit))) ⌝ }
 {
     let r = batch_rows::read_rows(data, signature, items, entries);
     put_batch(r, answer)

@@ -1,6 +1,8 @@
 // Bodies and batches, written from rows of words that the caller lends.
 ghost use Rattle.item_row.specs.Reply.{reply};
-ghost use Rattle.raft_log.specs.RowsWritten.{BodyRowsWritten, BatchRowsWritten};
+ghost use Rattle.batch_rows.specs.Rows.{BatchWrittenFrom};
+ghost use Rattle.raft_log.specs.Answers.{Replied};
+ghost use Rattle.raft_log.specs.RowsWritten.{writtenReply, BodyRowsWritten};
 
 // Writes a body. Where `checked`, a put of an internal key is refused.
 #[no_mangle]
@@ -32,7 +34,7 @@ pub extern "C" fn raft_log_write_batch(
     out: &mut [u8],
     answer: &mut [u64; 2],
 ) -> u32
-    ensures { λ r. ⌜ BatchRowsWritten checked (now (items .entry)) (now (entries .entry)) (now (store .entry)) (now (content .entry)) signature (now (out .entry)) (reply r (now (answer .exit))) (now (out .exit)) ⌝ }
+    ensures { λ r. ⌜ Replied (λ a. BatchWrittenFrom checked (now (items .entry)) (now (entries .entry)) (now (store .entry)) (now (content .entry)) signature (now (out .entry)) a (now (out .exit))) writtenReply (reply r (now (answer .exit))) ⌝ }
 {
     let r = batch_rows::write_rows(items, entries, store, content, signature, checked, out);
     *answer = [r.item as u64, r.length as u64];

@@ -1,6 +1,6 @@
 -- `raft_log::reading::put_batch` meets its contract.
 -- Assumes nothing.
-use Rattle.raft_log.proofs.RowsReplies.{batch-accepted, batch-refused}
+use Rattle.raft_log.proofs.Replies.{batch-accepted, batch-refused}
 use borrow.Author.Needs.{needs}
 use Rattle.raft_log.proofs.reading.put_batch.Statement.{statement}
 use Rattle.raft_log.proofs.reading.put_batch.Tie as tie

@@ -1,6 +1,5 @@
 -- `raft_log::reading::raft_log_read_batch` meets its contract.
 -- Assumes nothing.
-use Rattle.raft_log.proofs.RowsReplies.{batch-replied}
 use borrow.Author.Needs.{needs}
 use Rattle.raft_log.proofs.reading.raft_log_read_batch.Statement.{statement}
 use Rattle.raft_log.proofs.reading.raft_log_read_batch.Tie as tie
@@ -18,7 +17,7 @@ same-length-2 : tie.Need-same-length-2
 same-length-2 c = search needs
 
 returns : tie.Need-returns
-returns c = batch-replied (c .before .before .before .before .before .before .read-rows .ensures) (c .put-batch .ensures)
+returns c = record { answer = _; promised = c .before .before .before .before .before .before .read-rows .ensures; replied = c .put-batch .ensures }
 
 pub raft-log-read-batch-spec : {M : Type 1} → statement M
 raft-log-read-batch-spec =

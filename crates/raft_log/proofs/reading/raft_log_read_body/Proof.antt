@@ -1,6 +1,5 @@
 -- `raft_log::reading::raft_log_read_body` meets its contract.
 -- Assumes nothing.
-use Rattle.raft_log.proofs.RowsReplies.{rows-replied}
 use borrow.Author.Needs.{needs}
 use Rattle.raft_log.proofs.reading.raft_log_read_body.Statement.{statement}
 use Rattle.raft_log.proofs.reading.raft_log_read_body.Tie as tie
@@ -18,7 +17,7 @@ same-length-2 : tie.Need-same-length-2
 same-length-2 c = search needs
 
 returns : tie.Need-returns
-returns c = rows-replied (c .before .before .before .before .before .before .read-body .ensures) (c .put-check .ensures)
+returns c = record { answer = _; promised = c .before .before .before .before .before .before .read-body .ensures; replied = c .put-check .ensures }
 
 pub raft-log-read-body-spec : {M : Type 1} → statement M
 raft-log-read-body-spec =
