@@ -64,6 +64,7 @@ module _ (row : Location) (block : List ℕ) where
       go false b c h f = absurd (omega arith)
 
   pub view-none : {n : ℕ} → n ≡ viewCheck row block → (n ≡ 0 → ⊥) → [] ≡ viewed (viewCheck row block) row block
+  unfolding viewed
   view-none {n} e h = go (viewCheck row block) e
     where
       go : (m : ℕ) → n ≡ m → [] ≡ viewed m row block
@@ -72,6 +73,7 @@ module _ (row : Location) (block : List ℕ) where
 
   pub view-some : {n : ℕ} → n ≡ viewCheck row block → n ≡ 0
       → take (row .«entry_offset» + row .«entry_len» - row .«entry_offset») (drop (row .«entry_offset») block) ≡ viewed (viewCheck row block) row block
+  unfolding viewed
   view-some {n} e h =
       let z : viewCheck row block ≡ 0 = sym e ∙ h in
       rw z (ap (λ (k : ℕ). take k (drop (row .«entry_offset») block)) (add-sub-cancel-left (row .«entry_offset») (row .«entry_len»)))

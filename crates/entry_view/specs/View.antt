@@ -1,16 +1,17 @@
 -- The bytes of an entry: a part of whichever block its row's queue names. Checks on that block: 20, then 5 and 6 unless it is empty, then 13.
 -- Assumes nothing.
-use Prim.Native.Nat.{ℕ, zero, suc, _+_}
+use Prim.Native.Nat.{ℕ, _+_}
 use mathlib.Core.Bool.{cond}
 use mathlib.Core.List.{List, []}
 use lib.Dec.{leb, eqb}
 use lib.ListN.{length, take, drop}
-use Rattle.refusal.specs.First.{firstOf}
+use Rattle.refusal.specs.First.{firstOf, ifNone}
 use Rattle.pipe_log.specs.declared.LogQueue.{LogQueue}
 use Rattle.pipe_log.specs.declared.LogQueue.the-variants.{Append, Rewrite}
 use Rattle.pipe_log.specs.declared.Location.{Location}
 use Rattle.seal.specs.Seal.{blockCheck, contentLength}
 
+-- the block that the queue names
 abbrev pub named : LogQueue → List ℕ → List ℕ → List ℕ
 named Append append rewrite = append
 named Rewrite append rewrite = rewrite
@@ -23,7 +24,6 @@ entryCheck long offset len block =
 abbrev pub viewCheck : Location → List ℕ → ℕ
 viewCheck row block = entryCheck (row .len) (row .«entry_offset») (row .«entry_len») block
 
--- nothing where a check failed
-abbrev pub viewed : ℕ → Location → List ℕ → List ℕ
-viewed zero row block = take (row .«entry_len») (drop (row .«entry_offset») block)
-viewed (suc r) row block = []
+-- the bytes of the entry; nothing where a check failed
+unfoldable pub viewed : ℕ → Location → List ℕ → List ℕ
+viewed r row block = ifNone r (take (row .«entry_len») (drop (row .«entry_offset») block)) []
