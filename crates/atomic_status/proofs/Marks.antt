@@ -18,6 +18,7 @@ use Rattle.log_item.specs.declared.EntryIndexes.{EntryIndexes}
 use Rattle.log_item.specs.declared.KeyValue.{KeyValue}
 use Rattle.log_item.specs.declared.LogItemContent.the-variants as contents
 use Rattle.log_item.specs.declared.LogItem.{LogItem}
+use Rattle.log_item.proofs.Refusals.{key-outside}
 use Rattle.atomic_status.specs.declared.AtomicGroupStatus.the-variants.{Begin, Middle, End}
 use Rattle.atomic_status.specs.declared.StatusRead.{StatusRead}
 use Rattle.atomic_status.specs.declared.StatusRead.the-variants.{Mark, NoMark, Refused}
@@ -72,23 +73,18 @@ byte-unknown group (suc (suc (suc b))) h k l = refl
 
 -- ---- a put
 
-module _ (group : ℕ) (key v : Span) (s : List ℕ) where
-  pub put-outside : {r : StatusRead} {a : Bool} → a ≡ inside s v → a ≡ false → r ≡ Refused (record { number = 13; item = 0 }) → r ≡ markOf group key (Put v) s
+module _ (group : ℕ) (key v : Span) (s : List ℕ) {b : Bool} (m : b ≡ isMark s key) where
+  pub put-other : b ≡ false → NoMark ≡ markOf group key (Put v) s
   unfolding markOf
-  put-outside e h f = rw (sym e ∙ h) f
+  put-other k = rw (sym m ∙ k)
 
-  module _ {a : Bool} (e : a ≡ inside s v) (h : a ≡ true) {b : Bool} (m : b ≡ isMark s key) where
-    pub put-other : b ≡ false → NoMark ≡ markOf group key (Put v) s
-    unfolding markOf
-    put-other k = rw (sym e ∙ h, sym m ∙ k)
+  pub put-long : b ≡ true → (v .len ≡ 1 → ⊥) → NoMark ≡ markOf group key (Put v) s
+  unfolding markOf
+  put-long k l = rw (sym m ∙ k, ne-eqb _ _ l)
 
-    pub put-long : b ≡ true → (v .len ≡ 1 → ⊥) → NoMark ≡ markOf group key (Put v) s
-    unfolding markOf
-    put-long k l = rw (sym e ∙ h, sym m ∙ k, ne-eqb _ _ l)
-
-    pub put-mark : {r : StatusRead} → b ≡ true → v .len ≡ 1 → r ≡ statusByte group (getD s (v .at) 0) → r ≡ markOf group key (Put v) s
-    unfolding markOf
-    put-mark k l f = rw (sym e ∙ h, sym m ∙ k, eq-eqb _ _ l) f
+  pub put-mark : {r : StatusRead} → b ≡ true → v .len ≡ 1 → r ≡ statusByte group (getD s (v .at) 0) → r ≡ markOf group key (Put v) s
+  unfolding markOf
+  put-mark k l f = rw (sym m ∙ k, eq-eqb _ _ l) f
 
 -- ---- an item
 
@@ -104,12 +100,18 @@ module _ (x : LogItem) (s : List ℕ) where
   module _ {k : KeyValue} (e : x .content ≡ contents.Kv k) {a : Bool} (there : a ≡ inside s (k .key)) where
     pub status-outside : {r : StatusRead} → a ≡ false → r ≡ Refused (record { number = 13; item = 0 }) → r ≡ statusOf (x .«raft_group_id») (x .content) s
     unfolding statusOf
-    status-outside h f = rw (e, sym there ∙ h) f
+    status-outside h f = rw (e, ← key-outside s (k .key) (k .op) (sym there ∙ h)) f
 
-    pub status-delete : a ≡ true → k .op ≡ Del → NoMark ≡ statusOf (x .«raft_group_id») (x .content) s
-    unfolding statusOf markOf
-    status-delete h o = rw (e, sym there ∙ h, o)
+    module _ (h : a ≡ true) where
+      pub status-delete : k .op ≡ Del → NoMark ≡ statusOf (x .«raft_group_id») (x .content) s
+      unfolding statusOf markOf
+      status-delete o = rw (e, o, sym there ∙ h)
 
-    pub status-put : {v : Span} {r : StatusRead} → a ≡ true → k .op ≡ Put v → r ≡ markOf (x .«raft_group_id») (k .key) (Put v) s → r ≡ statusOf (x .«raft_group_id») (x .content) s
-    unfolding statusOf
-    status-put h o f = rw (e, sym there ∙ h, o) f
+      module _ {v : Span} (o : k .op ≡ Put v) {b : Bool} (there' : b ≡ inside s v) {r : StatusRead} where
+        pub put-outside : b ≡ false → r ≡ Refused (record { number = 13; item = 0 }) → r ≡ statusOf (x .«raft_group_id») (x .content) s
+        unfolding statusOf
+        put-outside l f = rw (e, o, sym there ∙ h, sym there' ∙ l) f
+
+        pub status-put : b ≡ true → r ≡ markOf (x .«raft_group_id») (k .key) (Put v) s → r ≡ statusOf (x .«raft_group_id») (x .content) s
+        unfolding statusOf
+        status-put l f = rw (e, o, sym there ∙ h, sym there' ∙ l) f

@@ -5,12 +5,13 @@ use mathlib.Core.Bool.{Bool, cond, _&&_}
 use mathlib.Core.List.{List, [], _∷_, _++_}
 use lib.Dec.{eqb}
 use lib.ListN.{length, getD}
-use Rattle.field.specs.Prefix.{prefix, begins, bytesOf, inside}
+use Rattle.field.specs.Prefix.{prefix, begins, bytesOf}
 use Rattle.field.specs.declared.Span.{Span}
 use Rattle.log_item.specs.declared.Op.{Op}
 use Rattle.log_item.specs.declared.Op.the-variants.{Put, Del}
 use Rattle.log_item.specs.declared.LogItemContent.{LogItemContent}
 use Rattle.log_item.specs.declared.LogItemContent.the-variants as contents
+use Rattle.log_item.specs.Refusing.{opInside}
 use Rattle.atomic_status.specs.declared.AtomicGroupStatus.the-variants.{Begin, Middle, End}
 use Rattle.atomic_status.specs.declared.StatusRead.{StatusRead}
 use Rattle.atomic_status.specs.declared.StatusRead.the-variants.{Mark, NoMark, Refused}
@@ -30,12 +31,11 @@ statusByte group (suc (suc zero)) = Mark group End
 statusByte group (suc (suc (suc b))) = Refused (record { number = 28; item = 0 })
 
 unfoldable pub markOf : ℕ → Span → Op → List ℕ → StatusRead
-markOf group key (Put v) s =
-    cond (inside s v) (cond (isMark s key && eqb (v .len) 1) (statusByte group (getD s (v .at) 0)) NoMark) (Refused (record { number = 13; item = 0 }))
+markOf group key (Put v) s = cond (isMark s key && eqb (v .len) 1) (statusByte group (getD s (v .at) 0)) NoMark
 markOf group key Del s = NoMark
 
--- what an item of this group and content marks
+-- what an item of this group and content marks; a span outside the bytes is a 13, before 28
 unfoldable pub statusOf : ℕ → LogItemContent → List ℕ → StatusRead
 statusOf group (contents.EntryIndexes e) s = NoMark
 statusOf group (contents.Command c) s = NoMark
-statusOf group (contents.Kv k) s = cond (inside s (k .key)) (markOf group (k .key) (k .op) s) (Refused (record { number = 13; item = 0 }))
+statusOf group (contents.Kv k) s = cond (opInside s (k .key) (k .op)) (markOf group (k .key) (k .op) s) (Refused (record { number = 13; item = 0 }))

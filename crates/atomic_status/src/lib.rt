@@ -40,21 +40,23 @@ impl AtomicGroupStatus {
                 }
                 match op {
                     Op::Del => StatusRead::NoMark,
-                    Op::Put { value } => mark_of(item.raft_group_id, key, value, store),
+                    Op::Put { value } => {
+                        if !log_item::lies_in(store, value) {
+                            return outside();
+                        }
+                        mark_of(item.raft_group_id, key, value, store)
+                    }
                 }
             }
         }
     }
 }
 
-// What a put marks, its key lying in the store.
+// What a put marks, its key and its content lying in the store.
 fn mark_of(group: u64, key: Span, value: Span, store: &[u8]) -> StatusRead
-    requires { ⌜ inside (now store) key ≡ true ⌝ }
+    requires { ⌜ (inside (now store) key ≡ true) × (inside (now store) value ≡ true) ⌝ }
     ensures { λ r. ⌜ r ≡ markOf group key (Op.Put value) (now (store .entry)) ⌝ }
 {
-    if !log_item::lies_in(store, value) {
-        return outside();
-    }
     if !is_mark(store, key) {
         return StatusRead::NoMark;
     }
