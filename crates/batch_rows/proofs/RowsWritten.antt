@@ -12,7 +12,8 @@ use Rattle.list_measure.specs.declared.Measured.{Measured}
 use Rattle.list_writer.specs.declared.Encoded.{Encoded}
 use Rattle.list_measure.specs.Answers.{measureOf}
 use Rattle.list_writer.specs.Answers.{MeasuredWritten}
-use Rattle.rows_writer.specs.Rows.{itemRowCount, rowItems, entryLengths, measureRows, rowsBytes}
+use Rattle.item_row.specs.Row.{itemRowCount}
+use Rattle.rows_writer.specs.Rows.{rowItems, entryLengths, measureRows, rowsBytes}
 use Rattle.rows_writer.proofs.RowsMeasuring.{rows-accepted}
 use Rattle.batch_front.specs.Front.{batchEncoded, FrontWritten}
 use Rattle.log_batch.specs.Written.{framed}

@@ -10,7 +10,8 @@ use Rattle.body_check.specs.declared.BodyCheck.{BodyCheck}
 use Rattle.body_check.specs.declared.BodyCheck.the-variants.{Accepted, Refused}
 use Rattle.list_writer.specs.declared.Encoded.{Encoded}
 use Rattle.list_writer.specs.Answers.{laid}
-use Rattle.rows_writer.specs.Rows.{itemRowCount, measureRows, rowsBytes}
+use Rattle.item_row.specs.Row.{itemRowCount}
+use Rattle.rows_writer.specs.Rows.{measureRows, rowsBytes}
 use Rattle.rows_reader.specs.Lent.{RowsRead}
 use Rattle.batch_rows.specs.declared.BatchCheck.{BatchCheck}
 use Rattle.log_batch.specs.Batch.{frontBatch, batchAnswer, bodyPlace, blockPlace}

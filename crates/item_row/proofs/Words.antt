@@ -1,9 +1,9 @@
 -- How many words rows have, and the words of a list with one row more.
 -- Assumes nothing.
-use Prim.Native.Nat.{ℕ, suc, _+_, _*_}
-use mathlib.Core.Path.{_≡_, refl, sym, ap, _∙_}
-use mathlib.Core.List.{List, [], _∷_, _++_, append-assoc, append-nil}
-use native.Mathlib.Omega.{arith}
+use Prim.Native.Nat.{ℕ, suc, _*_}
+use mathlib.Core.Path.{_≡_, refl, sym, ap}
+use mathlib.Core.List.{List, [], _∷_, _++_, flatMap, append-assoc, append-nil}
+use native.Mathlib.Nat.{zero-mul, suc-mul, add-comm}
 use lib.ListN.{length, length-append}
 use Rattle.field.specs.declared.Span.{Span}
 use Rattle.log_item.specs.declared.Command.the-variants.{Clean, Compact}
@@ -31,24 +31,22 @@ pub item-length : (x : LogItem) → length (itemWords x) ≡ 7
 unfolding itemWords
 item-length x = ap suc (content-length (x .content))
 
+-- ---- one row after the other
+
+module _ {A : Type 0} (words : A → List ℕ) where
+  flat-length : {n : ℕ} → ((x : A) → length (words x) ≡ n) → (xs : List A) → length (flatMap words xs) ≡ length xs * n
+  unfolding flatMap
+  flat-length {n} e [] = sym (zero-mul n)
+  flat-length {n} e (x ∷ xs) = rw (length-append, e x, flat-length e xs, suc-mul) (add-comm n (length xs * n))
+
+  pub flat-more : (xs : List A) (x : A) → flatMap words (xs ++ (x ∷ [])) ≡ flatMap words xs ++ words x
+  unfolding flatMap
+  flat-more [] x = append-nil (words x)
+  flat-more (y ∷ xs) x = rw (flat-more xs x, append-assoc)
+
 pub items-length : (xs : List LogItem) → length (itemsWords xs) ≡ length xs * 7
-unfolding itemsWords
-items-length [] = refl
-items-length (x ∷ xs) = omega (arith, length-append (itemWords x) (itemsWords xs), item-length x, items-length xs)
+items-length xs = flat-length itemWords item-length xs
 
 pub entries-length : (rows : List EntryIndex) → length (entriesWords rows) ≡ length rows * 3
-unfolding entriesWords entryWords
-entries-length [] = refl
-entries-length (r ∷ rows) = omega (arith, length-append (entryWords r) (entriesWords rows), entries-length rows)
-
-pub items-more : (xs : List LogItem) (x : LogItem) → itemsWords (xs ++ (x ∷ [])) ≡ itemsWords xs ++ itemWords x
-unfolding itemsWords
-items-more [] x = append-nil (itemWords x)
-items-more (y ∷ xs) x =
-    ap (λ (l : List ℕ). itemWords y ++ l) (items-more xs x) ∙ sym (append-assoc (itemWords y) (itemsWords xs) (itemWords x))
-
-pub entries-more : (rows : List EntryIndex) (r : EntryIndex) → entriesWords (rows ++ (r ∷ [])) ≡ entriesWords rows ++ entryWords r
-unfolding entriesWords
-entries-more [] r = append-nil (entryWords r)
-entries-more (y ∷ rows) r =
-    ap (λ (l : List ℕ). entryWords y ++ l) (entries-more rows r) ∙ sym (append-assoc (entryWords y) (entriesWords rows) (entryWords r))
+unfolding entryWords
+entries-length rows = flat-length entryWords (λ r. refl) rows

@@ -1,10 +1,10 @@
 -- How an item stands in seven words: group, type, and five words by type and kind. The layout is that of raft_log.h. An entry stands in three.
 -- Assumes nothing.
-use Prim.Native.Nat.{ℕ, _+_, _*_}
+use Prim.Native.Nat.{ℕ, _+_, _*_, _/_}
 use mathlib.Core.Bool.{cond}
-use mathlib.Core.List.{List, [], _∷_, _++_}
+use mathlib.Core.List.{List, [], _∷_, flatMap}
 use lib.Dec.{eqb}
-use lib.ListN.{getD}
+use lib.ListN.{length, getD}
 use Rattle.field.specs.declared.Span.{Span}
 use Rattle.log_item.specs.declared.Command.{Command}
 use Rattle.log_item.specs.declared.Command.the-variants.{Clean, Compact}
@@ -16,6 +16,13 @@ use Rattle.log_item.specs.declared.LogItem.{LogItem}
 use Rattle.log_item.specs.declared.EntryIndex.{EntryIndex}
 use Rattle.item_row.specs.declared.ItemRowRead.{ItemRowRead}
 use Rattle.item_row.specs.declared.ItemRowRead.the-variants.{Item, Refused}
+
+-- how many rows of items, or of entries, lent words hold
+abbrev pub itemRowCount : List ℕ → ℕ
+itemRowCount words = length words / 7
+
+abbrev pub entryRowCount : List ℕ → ℕ
+entryRowCount words = length words / 3
 
 -- ---- from words to an item
 
@@ -77,10 +84,8 @@ unfoldable pub entryWords : EntryIndex → List ℕ
 entryWords r = r .index ∷ r .«entry_offset» ∷ r .«entry_len» ∷ []
 
 -- one row after the other
-unfoldable pub itemsWords : List LogItem → List ℕ
-itemsWords [] = []
-itemsWords (x ∷ xs) = itemWords x ++ itemsWords xs
+abbrev pub itemsWords : List LogItem → List ℕ
+itemsWords xs = flatMap itemWords xs
 
-unfoldable pub entriesWords : List EntryIndex → List ℕ
-entriesWords [] = []
-entriesWords (r ∷ rows) = entryWords r ++ entriesWords rows
+abbrev pub entriesWords : List EntryIndex → List ℕ
+entriesWords rows = flatMap entryWords rows

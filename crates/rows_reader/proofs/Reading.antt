@@ -1,6 +1,6 @@
 -- What reading into lent rows comes to: a law for each way out of the code.
 -- Assumes nothing.
-use Prim.Native.Nat.{ℕ, _/_, _≤_, _<_}
+use Prim.Native.Nat.{ℕ, _≤_, _<_}
 use mathlib.Core.Path.{_≡_, _∙_}
 use mathlib.Core.Bool.{and-false}
 use mathlib.Core.List.{List}
@@ -11,6 +11,7 @@ use Rattle.refusal.specs.declared.Refusal.{Refusal}
 use Rattle.field.specs.declared.Form.the-variants.{Any}
 use Rattle.log_item.specs.declared.LogItem.{LogItem}
 use Rattle.log_item.specs.declared.EntryIndex.{EntryIndex}
+use Rattle.item_row.specs.Row.{itemRowCount, entryRowCount}
 use Rattle.body_check.specs.declared.BodyCheck.{BodyCheck}
 use Rattle.body_check.specs.declared.BodyCheck.the-variants.{Accepted, Refused}
 use Rattle.body_check.specs.declared.Wanted.{Wanted}
@@ -86,22 +87,22 @@ module _ (wanted : Wanted) (a : Answer) {m n u q : ℕ} (e : Accepted m n u q �
 -- ---- the rows that are lent
 
 module _ {a b : Answer} {m n u q : ℕ} (g : Agreed a b m n u q) (items entries : List ℕ) where
-  pub short-items : {r : BodyCheck} → length items / 7 < m → r ≡ Refused (record { number = 21; item = 0 }) → RowsRead b items entries r items entries
+  pub short-items : {r : BodyCheck} → itemRowCount items < m → r ≡ Refused (record { number = 21; item = 0 }) → RowsRead b items entries r items entries
   short-items h f =
-      let k : length items / 7 < length (g .xs) = omega (arith, g .many) in
+      let k : itemRowCount items < length (g .xs) = omega (arith, g .many) in
       let e = g .agrees in
       record { answer = rw (e, lt-leb _ _ k) f; rows = record { item-rows = rw (e, lt-leb _ _ k); entry-rows = rw (e, lt-leb _ _ k) } }
 
-  pub short-entries : {r : BodyCheck} → length entries / 3 < n → r ≡ Refused (record { number = 21; item = 0 }) → RowsRead b items entries r items entries
+  pub short-entries : {r : BodyCheck} → entryRowCount entries < n → r ≡ Refused (record { number = 21; item = 0 }) → RowsRead b items entries r items entries
   short-entries h f =
-      let k : length entries / 3 < length (g .rows) = omega (arith, g .used) in
+      let k : entryRowCount entries < length (g .rows) = omega (arith, g .used) in
       let e = g .agrees in
       record {
         answer = rw (e, lt-leb _ _ k, and-false) f;
         rows = record { item-rows = rw (e, lt-leb _ _ k, and-false); entry-rows = rw (e, lt-leb _ _ k, and-false) };
       }
 
-  module _ (room : m ≤ length items / 7) (more : n ≤ length entries / 3) where
+  module _ (room : m ≤ itemRowCount items) (more : n ≤ entryRowCount entries) where
     pub fits : {s : List ℕ} → a ≡ readItems Any s → Fits s items entries
     fits e =
         record {
@@ -117,8 +118,8 @@ module _ {a b : Answer} {m n u q : ℕ} (g : Agreed a b m n u q) (items entries 
     pub read : {c : Answer} {later others : List ℕ} → a ≡ c → Filled c items entries later others
         → RowsRead b items entries (Accepted m n u q) later others
     read e f =
-        let k : length (g .xs) ≤ length items / 7 = omega (arith, g .many) in
-        let l : length (g .rows) ≤ length entries / 3 = omega (arith, g .used) in
+        let k : length (g .xs) ≤ itemRowCount items = omega (arith, g .many) in
+        let l : length (g .rows) ≤ entryRowCount entries = omega (arith, g .used) in
         let h = rw e at (g .reads) in
         let x = g .agrees in
         let i = f .item-rows in

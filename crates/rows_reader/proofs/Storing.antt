@@ -4,7 +4,7 @@
 use Prim.Native.Nat.{ℕ, _+_, _-_, _*_, _^_, _%_, _≤_, _<_}
 use mathlib.Core.Path.{_≡_, refl, ap, _∙_}
 use mathlib.Core.Bool.{Bool, true, false}
-use mathlib.Core.List.{List, [], _∷_, _++_}
+use mathlib.Core.List.{List, [], _∷_, _++_, flatMap}
 use native.Mathlib.Omega.{arith}
 use native.Mathlib.Nat.{zero-add}
 use borrow.Author.Tests.{leb-true, leb-false}
@@ -26,7 +26,7 @@ use Rattle.log_item.specs.declared.LogItem.{LogItem}
 use Rattle.log_item.specs.declared.EntryIndex.{EntryIndex}
 use Rattle.log_item.specs.declared.EntryIndexes.{EntryIndexes}
 use Rattle.item_row.specs.Row.{itemWords, entryWords, itemsWords, entriesWords}
-use Rattle.item_row.proofs.Words.{item-length, items-length, entries-length, items-more, entries-more}
+use Rattle.item_row.proofs.Words.{item-length, items-length, entries-length, flat-more}
 use Rattle.log_item.specs.Private.{Stored}
 use Rattle.log_item.proofs.Stores.{stored-none, stored-then, stored-length, stored-same}
 use Rattle.body_check.specs.Reading.{Answer, accepted, rejected, readItems}
@@ -83,7 +83,7 @@ whole {lent} {words} w h =
 
 module _ {s items₀ entries₀ : List ℕ} (f : Fits s items₀ entries₀) where
   pub storing-start : {k q : ℕ} → readNumber s 0 ≡ Done k q → Storing s items₀ entries₀ k items₀ entries₀ 0 0 q 0 0 0
-  unfolding itemsWords entriesWords
+  unfolding flatMap
   storing-start e =
       record {
         table = replicate 256 blankItem;
@@ -125,7 +125,7 @@ module _ {s items₀ entries₀ : List ℕ} (f : Fits s items₀ entries₀) whe
               item-rows = w .item-rows;
               entry-rows =
                   stored-same
-                  (ap entriesWords (rows-take (w .filling .filled-rows) (rowOf index t u) below) ∙ entries-more (take j (w .lines)) (rowOf index t u))
+                  (ap entriesWords (rows-take (w .filling .filled-rows) (rowOf index t u) below) ∙ flat-more entryWords (take j (w .lines)) (rowOf index t u))
                   (stored-then (w .entry-rows) one);
             }
 
@@ -163,7 +163,7 @@ module _ {s items₀ entries₀ : List ℕ} (f : Fits s items₀ entries₀) whe
                 lines = w .lines;
                 filling = next-item (w .filling) done some e h;
                 item-rows =
-                    stored-same (ap itemsWords (rows-take (w .filling .filled-items) x below) ∙ items-more (take i (w .table)) x)
+                    stored-same (ap itemsWords (rows-take (w .filling .filled-items) x below) ∙ flat-more itemWords (take i (w .table)) x)
                     (stored-then (w .item-rows) one);
                 entry-rows = w .entry-rows;
               }

@@ -1,20 +1,20 @@
 -- What reading into lent rows answers, and what the rows hold afterwards.
 -- Assumes nothing.
-use Prim.Native.Nat.{ℕ, _/_}
+use Prim.Native.Nat.{ℕ}
 use mathlib.Core.Path.{_≡_}
 use mathlib.Core.Bool.{cond, _&&_}
 use mathlib.Core.List.{List, _++_}
 use lib.Dec.{leb}
 use lib.ListN.{length, drop}
-use Rattle.item_row.specs.Row.{itemsWords, entriesWords}
+use Rattle.item_row.specs.Row.{itemRowCount, entryRowCount, itemsWords, entriesWords}
 use Rattle.body_check.specs.declared.BodyCheck.{BodyCheck}
 use Rattle.body_check.specs.Reading.{Answer, accepted, rejected}
 use Rattle.body_check.specs.Answers.{checkOf}
 
--- an answer that has more rows than are lent, seven words for an item and three for an entry, is a 21
-abbrev pub fitting : ℕ → ℕ → Answer → Answer
+-- an answer that has more rows than are lent is a 21
+abbrev pub fitting : List ℕ → List ℕ → Answer → Answer
 fitting items entries (accepted xs rows u q) =
-    cond (leb (length xs) (items / 7) && leb (length rows) (entries / 3)) (accepted xs rows u q) (rejected 21 0)
+    cond (leb (length xs) (itemRowCount items) && leb (length rows) (entryRowCount entries)) (accepted xs rows u q) (rejected 21 0)
 fitting items entries (rejected r i) = rejected r i
 
 -- the rows of the answer, then what stood there; a refused reading leaves all as it was
@@ -33,5 +33,5 @@ pub record Filled (a : Answer) (items entries later more : List ℕ) : Type 0 wh
 
 -- the answer r to a reading that comes to a, and the rows that are lent
 pub record RowsRead (a : Answer) (items entries : List ℕ) (r : BodyCheck) (later more : List ℕ) : Type 0 where
-  pub answer : r ≡ checkOf (fitting (length items) (length entries) a)
-  pub rows : Filled (fitting (length items) (length entries) a) items entries later more
+  pub answer : r ≡ checkOf (fitting items entries a)
+  pub rows : Filled (fitting items entries a) items entries later more

@@ -1,6 +1,6 @@
 -- The items and the lengths that lent rows hold: how many, and which stands at a place.
 -- Assumes nothing.
-use Prim.Native.Nat.{ℕ, zero, suc, _+_, _*_, _/_, _≤_, _<_}
+use Prim.Native.Nat.{ℕ, zero, suc, _+_, _*_, _≤_, _<_}
 use mathlib.Core.Path.{_≡_, refl, sym, ap, _∙_}
 use mathlib.Core.Bool.{Bool, true, false}
 use mathlib.Core.List.{List}
@@ -12,8 +12,8 @@ use Rattle.log_item.specs.Blank.{blankItem}
 use Rattle.log_item.specs.declared.LogItem.{LogItem}
 use Rattle.item_row.specs.declared.ItemRowRead.{ItemRowRead}
 use Rattle.item_row.specs.declared.ItemRowRead.the-variants.{Item, Refused}
-use Rattle.item_row.specs.Row.{itemOfRow}
-use Rattle.rows_writer.specs.Rows.{itemRowCount, itemBefore, itemsFrom, rowItems, lengthsFrom, entryLengths}
+use Rattle.item_row.specs.Row.{itemRowCount, entryRowCount, itemOfRow}
+use Rattle.rows_writer.specs.Rows.{itemBefore, itemsFrom, rowItems, lengthsFrom, entryLengths}
 
 -- ---- items
 
@@ -119,15 +119,15 @@ module _ (words : List ℕ) where
       let z : j + 1 + k ≡ j + suc k = omega arith in
       from-word n (j + 1) k (omega arith) ∙ ap (λ (m : ℕ). getD words (m * 3 + 2) 0) z
 
-  pub lengths-length : length (entryLengths words) ≡ length words / 3
+  pub lengths-length : length (entryLengths words) ≡ entryRowCount words
   unfolding entryLengths
-  lengths-length = from-length (length words / 3) 0
+  lengths-length = from-length (entryRowCount words) 0
 
   pub length-at : (j : ℕ) → j < length (entryLengths words) → getD (entryLengths words) j 0 ≡ getD words (j * 3 + 2) 0
   unfolding entryLengths
   length-at j h =
       let z : 0 + j ≡ j = omega arith in
-      from-word (length words / 3) 0 j (omega (arith, from-length (length words / 3) 0)) ∙ ap (λ (m : ℕ). getD words (m * 3 + 2) 0) z
+      from-word (entryRowCount words) 0 j (omega (arith, from-length (entryRowCount words) 0)) ∙ ap (λ (m : ℕ). getD words (m * 3 + 2) 0) z
 
   -- There are three words of each.
   pub words-there : (j : ℕ) → j < length (entryLengths words) → j * 3 + 3 ≤ length words

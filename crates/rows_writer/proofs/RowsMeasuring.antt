@@ -9,13 +9,13 @@ use lib.Dec.{ltb, eqb}
 use lib.ListN.{length}
 use borrow.Author.Tests.{lt-ltb, le-ltb, eq-eqb, ne-eqb, eqb-true, ltb-false}
 use Rattle.item_row.specs.declared.ItemRowRead.the-variants.{Refused}
-use Rattle.item_row.specs.Row.{itemOfRow}
+use Rattle.item_row.specs.Row.{itemRowCount, itemOfRow}
 use Rattle.numbers.specs.Shortest.{shortest}
 use Rattle.list_measure.specs.declared.Measured.{Measured}
 use Rattle.list_measure.specs.Bytes.{listBytes}
 use Rattle.list_measure.specs.Refusing.{Verdict, fine, refused, itemsVerdict, listVerdict}
 use Rattle.list_measure.specs.Answers.{measured, measuredOf, measureOf}
-use Rattle.rows_writer.specs.Rows.{itemRowCount, rowItems, entryLengths, rowNumber, thenRow, rowsVerdict, measureRows}
+use Rattle.rows_writer.specs.Rows.{rowItems, entryLengths, rowNumber, thenRow, rowsVerdict, measureRows}
 use Rattle.rows_writer.proofs.RowItems.{items-few, row-ends}
 use Rattle.list_measure.proofs.Measuring.{Measuring, told-all, measuring-end}
 

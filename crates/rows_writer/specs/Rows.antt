@@ -1,7 +1,7 @@
 -- The items and the entry lengths that lent rows hold, which refusal a writer gives them, and what it answers. A row that spells no item is
 -- refused at its turn.
 -- Assumes nothing.
-use Prim.Native.Nat.{ℕ, zero, suc, _+_, _*_, _/_}
+use Prim.Native.Nat.{ℕ, zero, suc, _+_, _*_}
 use mathlib.Core.Bool.{Bool, cond}
 use mathlib.Core.List.{List, [], _∷_}
 use lib.Dec.{ltb, eqb}
@@ -9,16 +9,12 @@ use lib.ListN.{length, getD}
 use Rattle.log_item.specs.declared.LogItem.{LogItem}
 use Rattle.item_row.specs.declared.ItemRowRead.{ItemRowRead}
 use Rattle.item_row.specs.declared.ItemRowRead.the-variants.{Item, Refused}
-use Rattle.item_row.specs.Row.{itemOfRow}
+use Rattle.item_row.specs.Row.{itemRowCount, entryRowCount, itemOfRow}
 use Rattle.list_measure.specs.declared.Measured.{Measured}
 use Rattle.list_measure.specs.Bytes.{listBytes}
 use Rattle.list_writer.specs.Bytes.{bodyBytes}
 use Rattle.list_measure.specs.Refusing.{Verdict, fine, refused, itemsVerdict}
 use Rattle.list_measure.specs.Answers.{measuredOf}
-
--- how many rows of seven words there are
-abbrev pub itemRowCount : List ℕ → ℕ
-itemRowCount words = length words / 7
 
 -- an item in front of those that follow; a row that is none ends the list
 abbrev pub itemBefore : ItemRowRead → List LogItem → List LogItem
@@ -40,7 +36,7 @@ lengthsFrom words (suc n) j = getD words (j * 3 + 2) 0 ∷ lengthsFrom words n (
 
 -- as many as there are
 unfoldable pub entryLengths : List ℕ → List ℕ
-entryLengths words = lengthsFrom words (length words / 3) 0
+entryLengths words = lengthsFrom words (entryRowCount words) 0
 
 -- why a row is no item; 0 where it is one
 abbrev pub rowNumber : ItemRowRead → ℕ

@@ -4,7 +4,8 @@ use Rattle.list_writer.proofs.Bodies.{accepted, writing-begins, body-stored, bo
 use Rattle.list_writer.proofs.Writing.{Writing, row-low, writing-row, item-few, writing-item}
 use Rattle.rows_writer.proofs.RowsMeasuring.{rows-accepted}
 use Rattle.rows_writer.proofs.RowItems.{row-never, row-item, length-at, words-there}
-use Rattle.rows_writer.specs.Rows.{itemRowCount, rowItems, entryLengths}
+use Rattle.item_row.specs.Row.{itemRowCount}
+use Rattle.rows_writer.specs.Rows.{rowItems, entryLengths}
 use Rattle.log_item.specs.declared.EntryIndexes.{EntryIndexes}
 use denote.Ref.{now}
 use borrow.Author.Needs.{needs}

@@ -4,7 +4,8 @@ use denote.Ref.{now}
 use Rattle.rows_writer.proofs.RowsMeasuring.{rows-many, rows-refused, bad-row, rows-end}
 use Rattle.list_measure.proofs.Measuring.{Measuring, measuring-start, measuring-row, row-refused, measuring-item, item-refused}
 use Rattle.rows_writer.proofs.RowItems.{items-few, row-there, row-item, lengths-length, length-at, words-there}
-use Rattle.rows_writer.specs.Rows.{itemRowCount, rowItems, entryLengths}
+use Rattle.item_row.specs.Row.{itemRowCount}
+use Rattle.rows_writer.specs.Rows.{rowItems, entryLengths}
 use Rattle.numbers.specs.Shortest.{shortest}
 use borrow.Author.Needs.{needs}
 use native.Mathlib.Omega.{arith}
