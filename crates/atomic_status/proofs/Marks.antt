@@ -2,14 +2,15 @@
 -- Assumes nothing.
 use Prim.Native.Nat.{ℕ, zero, suc, _+_, _<_}
 use mathlib.Core.Path.{_≡_, refl, sym, _∙_}
-use mathlib.Core.Bool.{Bool, true, false, _&&_, and-true, and-assoc}
-use mathlib.Core.List.{List, [], _∷_, _++_}
+use mathlib.Core.Bool.{Bool, true, false, _&&_}
+use mathlib.Core.List.{List}
 use native.Mathlib.Omega.{arith}
 use borrow.Author.Tests.{eq-eqb, ne-eqb}
 use lib.Dec.{eqb}
-use lib.ListN.{length, getD, drop, length-take, length-drop}
+use lib.ListN.{getD, drop, length-take, length-drop}
 use lib.Seq.{getD-drop, getD-take}
 use Rattle.field.proofs.Inside.{inside-bound}
+use Rattle.field.proofs.Starts.{begins-more}
 use Rattle.field.specs.Prefix.{prefix, begins, bytesOf}
 use Rattle.field.specs.declared.Span.{Span}
 use Rattle.log_item.specs.declared.Op.the-variants.{Put, Del}
@@ -26,14 +27,6 @@ use Rattle.field.specs.Prefix.{inside}
 use Rattle.atomic_status.specs.Status.{isMark, statusByte, markOf, statusOf}
 
 -- ---- the key of a mark
-
--- bytes begin with a list and one byte more where they begin with the list and the byte stands after it
-begins-more : (bs ps : List ℕ) (x : ℕ) → length ps < length bs → begins bs (ps ++ (x ∷ [])) ≡ (begins bs ps && eqb (getD bs (length ps) 0) x)
-unfolding begins
-begins-more [] ps x h = absurd (omega arith)
-begins-more (b ∷ []) [] x h = and-true (eqb b x)
-begins-more (b ∷ c ∷ bs) [] x h = and-true (eqb b x)
-begins-more (b ∷ bs) (p ∷ ps) x h = rw (begins-more bs ps x (omega arith)) (sym (and-assoc (eqb b p) (begins bs ps) (eqb (getD bs (length ps) 0) x)))
 
 module _ (s : List ℕ) (k : Span) where
   pub mark-length : (k .len ≡ 3 → ⊥) → false ≡ isMark s k

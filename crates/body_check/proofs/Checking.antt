@@ -63,11 +63,11 @@ onto-before i e x rows (rejected r k) = refl
 
 module _ (form : Form) (s : List ℕ) where
   -- What is still to be read at an item is what the whole comes to.
-  pub record Left (count start i at total used : ℕ) : Type 0 where
+  pub record ItemsLeft (count start i at total used : ℕ) : Type 0 where
     pub few : i ≤ count
     pub comes : onto i used (items form s (count - i) i used total at) ≡ checkOf (items form s count 0 0 0 start)
 
-  pub left-start : (count start : ℕ) → Left count start 0 start 0 0
+  pub left-start : (count start : ℕ) → ItemsLeft count start 0 start 0 0
   left-start count start =
       let all : count - 0 ≡ count = omega arith in
       record { few = omega arith; comes = rw all (onto-none (items form s count 0 0 0 start)) }
@@ -99,12 +99,12 @@ module _ (form : Form) (s : List ℕ) where
   unfolding items
   items-none i e t p = refl
 
-  module _ {count start i at total used : ℕ} (l : Left count start i at total used) where
+  module _ {count start i at total used : ℕ} (l : ItemsLeft count start i at total used) where
     module _ (more : i < count) where
       rest : count - i ≡ suc (count - (i + 1))
       rest = omega arith
 
-      pub left-more : {u m q : ℕ} → passed.Done q u m ≡ itemPassed (passItem form s used total at) → Left count start (i + 1) q u m
+      pub left-more : {u m q : ℕ} → passed.Done q u m ≡ itemPassed (passItem form s used total at) → ItemsLeft count start (i + 1) q u m
       left-more h = record { few = omega arith; comes = sym (one-more (count - (i + 1)) i used total at h) ∙ rw (← rest) (l .comes) }
 
       pub left-refused : {r : ℕ} → passed.Refused r ≡ itemPassed (passItem form s used total at) → Refused (record { number = r; item = i }) ≡ checkOf (items form s count 0 0 0 start)

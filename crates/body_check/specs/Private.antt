@@ -3,7 +3,7 @@
 -- Assumes nothing.
 use Prim.Native.Nat.{ℕ, _+_}
 use mathlib.Core.List.{List}
-use Rattle.field.specs.Got.{Got, got, refused, Reading, done, bind, _>>=_}
+use Rattle.field.specs.Got.{Got, got, refused, Reading, done, _>>=_}
 use Rattle.log_item.specs.Entries.{entriesOf}
 use Rattle.log_item.specs.Reading.{firstIndex, entryIndexes, content}
 use Rattle.log_item.specs.Answers.{passTails}

@@ -4,7 +4,7 @@ use Prim.Native.Nat.{ℕ, zero, suc, _+_}
 use mathlib.Core.List.{List, [], _∷_, _++_}
 use lib.Dec.{leb}
 use lib.ListN.{length}
-use Rattle.field.specs.Got.{Got, got, refused, Reading, done, bind, _>>=_, _>>_, Test, _else_}
+use Rattle.field.specs.Got.{Got, got, refused, Reading, done, _>>=_, _>>_, _else_}
 use Rattle.log_item.specs.Reading.{Read, oneItem}
 use Rattle.field.specs.Reading.{number}
 use Rattle.field.specs.declared.Form.{Form}

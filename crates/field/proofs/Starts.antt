@@ -2,8 +2,8 @@
 -- Assumes nothing.
 use Prim.Native.Nat.{ℕ, _+_, _-_, _≤_, _<_, min}
 use mathlib.Core.Path.{_≡_, refl, sym, ap, _∙_}
-use mathlib.Core.Bool.{true, false, and-false}
-use mathlib.Core.List.{List, [], _∷_}
+use mathlib.Core.Bool.{_&&_, true, false, and-false, and-true, and-assoc}
+use mathlib.Core.List.{List, [], _∷_, _++_}
 use native.Mathlib.Omega.{arith}
 use native.Mathlib.Numerals.{add-one}
 use borrow.Author.Tests.{eq-eqb, ne-eqb}
@@ -18,6 +18,14 @@ unfolding begins
 short bs [] h = absurd (omega arith)
 short [] (p ∷ ps) h = refl
 short (b ∷ bs) (p ∷ ps) h = rw (short bs ps (omega arith)) (and-false (eqb b p))
+
+-- Bytes begin with a list and one byte more where they begin with the list and the byte stands after it.
+pub begins-more : (bs ps : List ℕ) (x : ℕ) → length ps < length bs → begins bs (ps ++ (x ∷ [])) ≡ (begins bs ps && eqb (getD bs (length ps) 0) x)
+unfolding begins
+begins-more [] ps x h = absurd (omega arith)
+begins-more (b ∷ []) [] x h = and-true (eqb b x)
+begins-more (b ∷ c ∷ bs) [] x h = and-true (eqb b x)
+begins-more (b ∷ bs) (p ∷ ps) x h = rw (begins-more bs ps x (omega arith)) (sym (and-assoc (eqb b p) (begins bs ps) (eqb (getD bs (length ps) 0) x)))
 
 all : (bs : List ℕ) → begins bs [] ≡ true
 unfolding begins
@@ -45,10 +53,10 @@ module _ (s : List ℕ) (at len : ℕ) (ps : List ℕ) where
   too-short h = sym (short (take len (drop at s)) ps (omega (arith, size)))
 
   -- what is left to test after i bytes comes to what the whole test does
-  abbrev pub Left : ℕ → Type 0
-  Left i = begins (drop i (take len (drop at s))) (drop i ps) ≡ begins (take len (drop at s)) ps
+  abbrev pub BytesLeft : ℕ → Type 0
+  BytesLeft i = begins (drop i (take len (drop at s))) (drop i ps) ≡ begins (take len (drop at s)) ps
 
-  module _ (i : ℕ) (l : Left i) where
+  module _ (i : ℕ) (l : BytesLeft i) where
     pub start-end : length ps ≤ i → true ≡ begins (take len (drop at s)) ps
     start-end h = sym (end (take len (drop at s)) ps i h) ∙ l
 
@@ -59,7 +67,7 @@ module _ (s : List ℕ) (at len : ℕ) (ps : List ℕ) where
       in-store : getD (take len (drop at s)) i 0 ≡ getD s (at + i) 0
       in-store = let n : i < len = omega arith in rw (getD-take, getD-drop)
 
-      pub start-same : getD s (at + i) 0 ≡ getD ps i 0 → Left (i + 1)
+      pub start-same : getD s (at + i) 0 ≡ getD ps i 0 → BytesLeft (i + 1)
       start-same e = sym (same (take len (drop at s)) ps i in-key h (in-store ∙ e)) ∙ l
 
       pub start-other : (getD s (at + i) 0 ≡ getD ps i 0 → ⊥) → false ≡ begins (take len (drop at s)) ps

@@ -8,7 +8,7 @@ use Rattle.numbers.specs.Number.{readNumber}
 use Rattle.numbers.specs.Shortest.{shortest}
 use Rattle.numbers.specs.declared.NumberRead.{NumberRead}
 use Rattle.numbers.specs.declared.NumberRead.the-variants.{Done, Eof, Overflow}
-use Rattle.field.specs.Got.{Got, got, refused, Reading, done, upto, refuse, here, bind, _>>=_, _>>_, Test, _else_}
+use Rattle.field.specs.Got.{Got, got, refused, Reading, done, upto, here, _>>=_, _>>_, _else_}
 use Rattle.field.specs.declared.Form.{Form}
 use Rattle.field.specs.declared.Form.the-variants.{Any, Plain}
 use Rattle.field.specs.declared.Span.{Span}

@@ -9,7 +9,7 @@ use crate::SpanRead;
 use numbers::NumberRead;
 use words::wide;
 
-// What Form::Plain alone refuses. Document 01 has no such number: it is shown to the plain-form test, which answers no.
+// What Form::Plain alone refuses; who asks for Plain sees it. Document 01 has no such number, and the plain-form test answers no in its place.
 const NOT_SHORTEST: u32 = 8;
 
 // A length and as many bytes: where these stand.

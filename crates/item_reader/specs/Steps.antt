@@ -7,7 +7,7 @@ use lib.Dec.{ltb}
 use lib.ListN.{length}
 use Rattle.refusal.specs.First.{ifNone}
 use Rattle.refusal.specs.declared.Refusal.{Refusal}
-use Rattle.field.specs.Got.{Got, got, refused, Reading, done, here, bind, _>>=_}
+use Rattle.field.specs.Got.{Got, got, refused, Reading, done, here, _>>=_}
 use Rattle.log_item.specs.Entries.{entriesOf}
 use Rattle.log_item.specs.Reading.{head, tails}
 use Rattle.field.specs.declared.Form.the-variants.{Any}

@@ -1,14 +1,14 @@
--- `body_check::check_from` meets its contract. The loop's invariant, `Left`: what is still to be read comes to what the whole comes to.
+-- `body_check::check_from` meets its contract. The loop's invariant, `ItemsLeft`: what is still to be read comes to what the whole comes to.
 -- Assumes nothing.
 use Prim.Native.Nat.{_-_}
 use mathlib.Core.Path.{sym, _∙_}
-use Rattle.body_check.proofs.Checking.{Left, left-start, left-more, left-refused, left-end}
+use Rattle.body_check.proofs.Checking.{ItemsLeft, left-start, left-more, left-refused, left-end}
 use borrow.Author.Needs.{needs}
 use Rattle.body_check.proofs.check_from.Statement.{statement}
 use Rattle.body_check.proofs.check_from.Tie as tie
 
 abbrev Inv-loop : tie.InvT-loop
-Inv-loop buf start count form i₀ at₀ total₀ used₀ i at total used = Left form buf count start i at total used
+Inv-loop buf start count form i₀ at₀ total₀ used₀ i at total used = ItemsLeft form buf count start i at total used
 
 abbrev μ-loop : tie.MeasureT-loop
 μ-loop buf start count form i₀ at₀ total₀ used₀ i at total used = count - i

@@ -1,16 +1,16 @@
--- `field::prefix::starts_with` meets its contract. The loop's invariant, `Left`: what is left to test after i bytes comes to what the whole test does.
+-- `field::prefix::starts_with` meets its contract. The loop's invariant, `BytesLeft`: what is left to test after i bytes comes to what the whole test does.
 -- Assumes nothing.
 use mathlib.Core.Path.{refl}
 use Prim.Native.Nat.{_-_}
 use lib.ListN.{length}
-use Rattle.field.proofs.Starts.{too-short, Left, start-end, start-same, start-other}
+use Rattle.field.proofs.Starts.{too-short, BytesLeft, start-end, start-same, start-other}
 use borrow.Author.Needs.{needs}
 use native.Mathlib.Omega.{arith}
 use Rattle.field.proofs.prefix.starts_with.Statement.{statement}
 use Rattle.field.proofs.prefix.starts_with.Tie as tie
 
 abbrev Inv-loop : tie.InvT-loop
-Inv-loop store start at len i₀ i = Left store at len start i
+Inv-loop store start at len i₀ i = BytesLeft store at len start i
 
 abbrev μ-loop : tie.MeasureT-loop
 μ-loop store start at len i₀ i = length start - i
