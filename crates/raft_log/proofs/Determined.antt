@@ -7,11 +7,11 @@ use denote.Ref.{now}
 use Rattle.one_answer.specs.OneAnswer.{OneAnswer}
 use Rattle.item_row.specs.Reply.{Reply, reply}
 use Rattle.item_row.proofs.Replies.{same}
+use Rattle.list_writer.proofs.Determined.{written-once}
 use Rattle.batch_rows.specs.declared.BatchCheck.{BatchCheck}
 use Rattle.batch_rows.specs.Rows.{BatchReadInto}
-use Rattle.raft_log.specs.Answers.{Replied, checkReply, batchReply}
+use Rattle.raft_log.specs.Answers.{Replied, checkReply, batchReply, writtenReply}
 use Rattle.raft_log.specs.Locations.{rewriteReply}
-use Rattle.raft_log.specs.RowsWritten.{writtenReply}
 use Rattle.raft_log.proofs.raft_log_crc32.Kinds as crc32-kinds
 use Rattle.raft_log.proofs.raft_log_crc32.Reads as crc32-reads
 use Rattle.raft_log.proofs.raft_log_read_number.Kinds as read-number-kinds
@@ -95,7 +95,10 @@ read-batch κs a x y s t p q =
 
 pub write-body : OneAnswer 5 write-body-kinds.ps write-body-kinds.r write-body-reads.Post
     (λ κs x y s t. (x ≡ y) × (now (s .1 .1 .1 .1 .1 .1 .0) ≡ now (t .1 .1 .1 .1 .1 .1 .0)) × (now (s .1 .1 .1 .1 .1 .0) ≡ now (t .1 .1 .1 .1 .1 .0)))
-write-body κs a x y s t p q = let e = same (p .answer) (q .answer) in (e .0, e .1, p .written ∙ sym (q .written))
+write-body κs a x y s t p q =
+    let k = written-once (p .promised) (q .promised) in
+    let e = same-replied p q (ap writtenReply (k .0)) in
+    (e .0, e .1, k .1)
 
 pub write-batch : OneAnswer 6 write-batch-kinds.ps write-batch-kinds.r write-batch-reads.Post
     (λ κs x y s t. (x ≡ y) × (now (s .1 .1 .1 .1 .1 .1 .1 .0) ≡ now (t .1 .1 .1 .1 .1 .1 .1 .0)) × (now (s .1 .1 .1 .1 .1 .1 .0) ≡ now (t .1 .1 .1 .1 .1 .1 .0)))

@@ -1,4 +1,3 @@
 pub mod Replies
-pub mod RowsWrites
 pub mod Determined
 pub mod LocationReplies

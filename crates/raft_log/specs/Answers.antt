@@ -24,6 +24,7 @@ use Rattle.atomic_status.specs.declared.StatusRead.{StatusRead}
 use Rattle.atomic_status.specs.declared.StatusRead.the-variants as status
 use Rattle.atomic_status.specs.Status.{statusOf}
 use Rattle.entry_view.specs.View.{entryCheck}
+use Rattle.list_writer.specs.declared.Encoded.{Encoded}
 use Rattle.item_row.specs.Reply.{Reply, reply}
 
 -- r replies an answer that keeps the promise of the function below
@@ -94,3 +95,7 @@ statusReply (status.Refused r) = reply (r .number) (0 ∷ 0 ∷ [])
 unfoldable pub rowStatus : ItemRowRead → List ℕ → Reply
 rowStatus (row.Item x) store = statusReply (statusOf (x .«raft_group_id») (x .content) store)
 rowStatus (row.Refused r) store = reply r (0 ∷ 0 ∷ [])
+
+-- a written body or batch: item of a refusal, length
+abbrev pub writtenReply : Encoded → Reply
+writtenReply e = reply (e .number) (e .item ∷ e .length ∷ [])

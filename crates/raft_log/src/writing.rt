@@ -1,8 +1,9 @@
 // Bodies and batches, written from rows of words that the caller lends.
 ghost use Rattle.item_row.specs.Reply.{reply};
+ghost use Rattle.list_writer.specs.Answers.{MeasuredWritten};
+ghost use Rattle.rows_writer.specs.Rows.{measureRows, rowsBytes};
 ghost use Rattle.batch_rows.specs.Rows.{BatchWrittenFrom};
-ghost use Rattle.raft_log.specs.Answers.{Replied};
-ghost use Rattle.raft_log.specs.RowsWritten.{writtenReply, BodyRowsWritten};
+ghost use Rattle.raft_log.specs.Answers.{Replied, writtenReply};
 
 // Writes a body. Where `checked`, a put of an internal key is refused.
 #[no_mangle]
@@ -15,7 +16,7 @@ pub extern "C" fn raft_log_write_body(
     out: &mut [u8],
     answer: &mut [u64; 2],
 ) -> u32
-    ensures { λ r. ⌜ BodyRowsWritten checked (now (items .entry)) (now (entries .entry)) (now (store .entry)) signature (now (out .entry)) (reply r (now (answer .exit))) (now (out .exit)) ⌝ }
+    ensures { λ r. ⌜ Replied (λ a. MeasuredWritten (measureRows (now (store .entry)) checked (now (items .entry)) (now (entries .entry))) (rowsBytes (now (store .entry)) (now (items .entry)) (now (entries .entry)) signature) (now (out .entry)) 0 a (now (out .exit))) writtenReply (reply r (now (answer .exit))) ⌝ }
 {
     let r = rows_writer::encode_rows(items, entries, store, signature, checked, out, 0);
     *answer = [r.item as u64, r.length as u64];

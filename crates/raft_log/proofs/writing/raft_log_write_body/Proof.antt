@@ -1,6 +1,6 @@
 -- `raft_log::writing::raft_log_write_body` meets its contract.
 -- Assumes nothing.
-use Rattle.raft_log.proofs.RowsWrites.{body-replied}
+use mathlib.Core.Path.{refl}
 use borrow.Author.Needs.{needs}
 use Rattle.raft_log.proofs.writing.raft_log_write_body.Statement.{statement}
 use Rattle.raft_log.proofs.writing.raft_log_write_body.Tie as tie
@@ -12,7 +12,7 @@ same-length : tie.Need-same-length
 same-length c = search needs
 
 returns : tie.Need-returns
-returns c = body-replied (c .before .before .before .encode-rows .ensures)
+returns c = record { answer = _; promised = c .before .before .before .encode-rows .ensures; replied = refl }
 
 pub raft-log-write-body-spec : {M : Type 1} → statement M
 raft-log-write-body-spec =
