@@ -18,11 +18,11 @@ module _ (n m : ℕ) (t : Table) (r : Rewritten) where
   limit-refused f = rw (ne-eqb (r .number) 0 f) refl
 
   module _ (z : r .number ≡ 0) where
-    pub limit-rows : {a : Rewritten} → 64 < n → a ≡ unchanged 21 t → a ≡ limited n m t r
+    pub limit-rows : {a : Rewritten} → 64 < n → a ≡ unchanged 21 (t .count) → a ≡ limited n m t r
     unfolding limited
     limit-rows l e = rw (eq-eqb (r .number) 0 z, lt-leb n 64 l) e
 
-    pub limit-incoming : {a : Rewritten} → n ≤ 64 → 64 < m → a ≡ unchanged 21 t → a ≡ limited n m t r
+    pub limit-incoming : {a : Rewritten} → n ≤ 64 → 64 < m → a ≡ unchanged 21 (t .count) → a ≡ limited n m t r
     unfolding limited
     limit-incoming k l e = rw (eq-eqb (r .number) 0 z, le-leb n 64 k, lt-leb m 64 l) e
 
@@ -37,7 +37,7 @@ module _ (n m : ℕ) (t : Table) (d : Rewritten) where
   unfolding limited
   limited-le = told (eqb (d .number) 0 && not (inReach n m))
     where
-      told : (b : Bool) → cond b (unchanged 21 t) d .replaced ≤ d .replaced
+      told : (b : Bool) → cond b (unchanged 21 (t .count)) d .replaced ≤ d .replaced
       told true = omega arith
       told false = omega arith
 
@@ -45,11 +45,11 @@ module _ (n m : ℕ) (t : Table) (d : Rewritten) where
   unfolding limited
   limited-in e = rw e (told (eqb (d .number) 0))
     where
-      told : (b : Bool) → cond (b && false) (unchanged 21 t) d ≡ d
+      told : (b : Bool) → cond (b && false) (unchanged 21 (t .count)) d ≡ d
       told true = refl
       told false = refl
 
-  pub limited-21 : inReach n m ≡ false → eqb (d .number) 0 ≡ true → limited n m t d ≡ unchanged 21 t
+  pub limited-21 : inReach n m ≡ false → eqb (d .number) 0 ≡ true → limited n m t d ≡ unchanged 21 (t .count)
   unfolding limited
   limited-21 e f = rw (e, f) refl
 
@@ -64,6 +64,6 @@ module _ (n m : ℕ) (t : Table) (d : Rewritten) where
       told true h = ap (λ (r : Rewritten). r .replaced) (limited-21 e h)
       told false h = ap (λ (r : Rewritten). r .replaced) (limited-same h) ∙ f (eqb-false (d .number) 0 h)
 
-  pub limited-refused : (k : ℕ) → (k ≡ 0 → ⊥) → d ≡ unchanged k t → limited n m t d ≡ unchanged k t
+  pub limited-refused : (k : ℕ) → (k ≡ 0 → ⊥) → d ≡ unchanged k (t .count) → limited n m t d ≡ unchanged k (t .count)
   unfolding limited
   limited-refused k f e = rw (e, ne-eqb k 0 f) refl

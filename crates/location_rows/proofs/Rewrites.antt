@@ -32,11 +32,11 @@ use Rattle.location_rows.proofs.Limits.{limited-le, limited-in, limited
 
 -- ---- what is known of the words
 
-not-formed : (isReady : Bool) (t : Table) (place overlap run : ℕ) (gate : Gate) → answered false isReady t place overlap run gate ≡ unchanged 26 t
+not-formed : (isReady : Bool) (t : Table) (place overlap run : ℕ) (gate : Gate) → answered false isReady t place overlap run gate ≡ unchanged 26 (t .count)
 unfolding answered
 not-formed isReady t place overlap run gate = refl
 
-not-taken : (t : Table) (place overlap run : ℕ) (gate : Gate) → answered true false t place overlap run gate ≡ unchanged 27 t
+not-taken : (t : Table) (place overlap run : ℕ) (gate : Gate) → answered true false t place overlap run gate ≡ unchanged 27 (t .count)
 unfolding answered
 not-taken t place overlap run gate = refl
 
@@ -89,9 +89,9 @@ module _ (words : List ℕ) (t : Table) (incoming : List ℕ) (first : ℕ) {p :
           copied ∙ ap (λ (k : ℕ). paste words (p .start * 6) (drop (p .from * 6) incoming) (k * 6)) z ∙ sym (paste-zero words (p .start * 6) (drop (p .from * 6) incoming))
 
       -- a refusal k
-      refused : (k : ℕ) → (k ≡ 0 → ⊥) → d ≡ unchanged k t → (a ≡ unchanged k t) × (later ≡ words)
+      refused : (k : ℕ) → (k ≡ 0 → ⊥) → d ≡ unchanged k (t .count) → (a ≡ unchanged k (t .count)) × (later ≡ words)
       refused k f h =
-          let z : a ≡ unchanged k t = reply ∙ limited-refused (locationCount words) (locationCount incoming) t d k f h in
+          let z : a ≡ unchanged k (t .count) = reply ∙ limited-refused (locationCount words) (locationCount incoming) t d k f h in
           (z, as-before (ap (λ (w : Rewritten). w .replaced) z))
 
       -- a row of the table is no location's
@@ -122,14 +122,14 @@ module _ (words : List ℕ) (t : Table) (incoming : List ℕ) (first : ℕ) {p :
 
         -- all are
         module _ (i : areRows (locationCount incoming) incoming ≡ true) where
-          abbrev last : ℕ
-          last = 0 + runOf Stop.Append (take (length (located incoming) - 0) (drop 0 (located incoming)))
+          abbrev wrong : ℕ
+          wrong = 0 + runOf Stop.Append (take (length (located incoming) - 0) (drop 0 (located incoming)))
 
-          ready-is : isReady ≡ readyBy last (length (located incoming)) first
-          ready-is = taken ∙ is-taken incoming first i ∙ sym (ready-by (located incoming) first last (readyBy last (length (located incoming)) first) refl refl)
+          ready-is : isReady ≡ readyBy wrong (length (located incoming)) first
+          ready-is = taken ∙ is-taken incoming first i ∙ sym (ready-by (located incoming) first wrong (readyBy wrong (length (located incoming)) first) refl refl)
 
           rewrites : (d ≡ rewriteOf (located words) t (located incoming) first gate) × (paste (located words) (p .start) (drop (p .from) (located incoming)) (d .replaced) ≡ rowsAfter (located words) t (located incoming) first gate)
-          rewrites = rewritten-by (located words) t (located incoming) first gate good last isReady p s e d _ good-is refl ready-is over-located stops ran decided refl
+          rewrites = rewritten-by (located words) t (located incoming) first gate good wrong isReady p s e d _ good-is refl ready-is over-located stops ran decided refl
 
           answer-is : a ≡ limited (length (located words)) (length (located incoming)) t (rewriteOf (located words) t (located incoming) first gate)
           answer-is = rw (located-length words, located-length incoming, sym (rewrites .0)) reply

@@ -14,11 +14,10 @@ use borrow.Author.Tests.{le-leb, lt-leb}
 use Rattle.pipe_log.specs.declared.Location.{Location}
 use Rattle.pipe_log.specs.declared.LogQueue.{LogQueue}
 use Rattle.location_rules.specs.declared.Stop.{Stop}
-use Rattle.location_rules.specs.Row.{stopsAt}
+use Rattle.location_rules.specs.Row.{stopsAt, rowStart}
 use Rattle.memtable.specs.Rows.{runOf}
 use Rattle.memtable.proofs.Runs.{noRow, run-none, stopped, goes-on}
 use Rattle.location_rows.specs.Words.{queueOf, locationOf, areRows, locationCount, located}
-use Rattle.location_rows.specs.Private.{rowStart}
 use Rattle.location_rows.proofs.Rows.{locations-length, location-at}
 
 -- ---- one row
@@ -28,14 +27,10 @@ is-rewrite zero f = absurd (f refl)
 is-rewrite (suc queue) f = refl
 
 -- a stop looks at the queue and the file number alone
-stops-same : (stop : Stop) (queue seq : ℕ) (row : Location) → row .queue ≡ queueOf queue → row .seq ≡ seq → stopsAt stop row ≡ stopsAt stop (rowStart queue seq)
-stops-same Stop.Append queue seq row e f = rw e refl
-stops-same Stop.Rewrite queue seq row e f = rw e refl
-stops-same (Stop.Above gate) queue seq row e f = rw f refl
-
-pub stops-start : (stop : Stop) (seq queue : ℕ) {q : LogQueue} {r : Bool} → q ≡ queueOf queue
-    → r ≡ stopsAt stop (record { queue = q; seq = seq; offset = 0; len = 0; «entry_offset» = 0; «entry_len» = 0 }) → r ≡ stopsAt stop (rowStart queue seq)
-stops-start stop seq queue e f = f ∙ stops-same stop queue seq _ e refl
+stops-same : (stop : Stop) (row : Location) → stopsAt stop row ≡ stopsAt stop (rowStart (row .queue) (row .seq))
+stops-same Stop.Append row = refl
+stops-same Stop.Rewrite row = refl
+stops-same (Stop.Above gate) row = refl
 
 -- the first word of the rest, and the words after it
 at-start : (words : List ℕ) (k : ℕ) → getD (drop k words) 0 0 ≡ getD words k 0
@@ -94,12 +89,11 @@ module _ {words : List ℕ} {stop : Stop} {lo hi i : ℕ} (w : Scanned words sto
       same : i ≡ hi
       same = omega (arith, w .within)
 
-  module _ (l : i < hi) (h : hi ≤ locationCount words) {b : Bool} (e : b ≡ stopsAt stop (rowStart (getD words (i * 6) 0) (getD words (i * 6 + 1) 0))) where
+  module _ (l : i < hi) (h : hi ≤ locationCount words) {b : Bool} (e : b ≡ stopsAt stop (rowStart (queueOf (getD words (i * 6) 0)) (getD words (i * 6 + 1) 0))) where
     row : stopsAt stop (getD (located words) i noRow) ≡ b
     row =
         ap (stopsAt stop) (location-at (locationCount words) i words noRow (omega arith))
-        ∙ stops-same stop (getD words (i * 6) 0) (getD words (i * 6 + 1) 0) (locationOf (drop (i * 6) words)) (ap queueOf (at-start words (i * 6))) (getD-drop (i * 6) words 1 0)
-        ∙ sym e
+        ∙ stops-same stop (locationOf (drop (i * 6) words)) ∙ (rw (at-start words (i * 6), getD-drop (i * 6) words 1 0) (sym e))
 
     in-rows : hi ≤ length (located words)
     in-rows = omega (arith, h, locations-length (locationCount words) words)

@@ -43,12 +43,12 @@ module _ (words : List ℕ) {b : Bool} (e : b ≡ areRows (locationCount words) 
         let n : length (located words) ≡ locationCount words = located-length words in
         formed-by (located words) t (t .count) front back r (omega (arith, l, n)) e₁ (rw n e₂) (rw n e₃) ∙ (rw (sym e ∙ f) refl)
 
-    pub taken : (first : ℕ) {last : ℕ} {r : Bool} → last ≡ 0 + runOf Stop.Append (take (locationCount words - 0) (drop 0 (located words))) → r ≡ readyBy last (locationCount words) first
+    pub taken : (first : ℕ) {wrong : ℕ} {r : Bool} → wrong ≡ 0 + runOf Stop.Append (take (locationCount words - 0) (drop 0 (located words))) → r ≡ readyBy wrong (locationCount words) first
         → r ≡ readyWords words first
     unfolding readyWords
-    taken first {last} {r} e₁ e₂ =
+    taken first {wrong} {r} e₁ e₂ =
         let n : length (located words) ≡ locationCount words = located-length words in
-        ready-by (located words) first last r (rw n e₁) (rw n e₂) ∙ (rw (sym e ∙ f) refl)
+        ready-by (located words) first wrong r (rw n e₁) (rw n e₂) ∙ (rw (sym e ∙ f) refl)
 
 -- the rewritten count is within the rows
 pub count-within : (words : List ℕ) (t : Table) {b : Bool} → b ≡ formedWords words t → b ≡ true → t .count ≤ locationCount words

@@ -15,12 +15,12 @@ use Rattle.location_rules.specs.declared.Table.{Table}
 use Rattle.location_rules.specs.declared.Gate.{Gate}
 use Rattle.location_rules.specs.declared.Rewritten.{Rewritten}
 use Rattle.memtable.specs.Table.{wellFormed}
-use Rattle.location_rules.specs.Decisions.{unchanged}
+use Rattle.location_rules.specs.Decisions.{unchanged, Kept}
 use Rattle.memtable.specs.Rewriting.{rewriteOf, rowsAfter}
 use Rattle.memtable.proofs.Theorems.{refused-kept}
 use Rattle.location_rows.specs.Words.{startsWell, locationOf, areRows, locationCount, Rows, rows, broken, rowsOf, queueOf, queueWord, rowWords, rowsWords, located}
 use Rattle.location_rules.specs.Parts.{inReach}
-use Rattle.location_rows.specs.Answers.{limited, rewriteRows, rowsAfterwards, Kept}
+use Rattle.location_rows.specs.Answers.{limited, rewriteRows, rowsAfterwards}
 use Rattle.location_rows.proofs.Rows.{rows-back}
 use Rattle.location_rows.proofs.Surveys.{located-length}
 use Rattle.location_rows.proofs.Limits.{limited-in, limited-21, limited-same}
@@ -61,7 +61,7 @@ module _ (words : List ℕ) (t : Table) (first : ℕ) (gate : Gate) where
   kept broken b e f = (refl, (refl, refl))
   kept (rows xs) broken e f = told (wellFormed xs t)
     where
-      told : (c : Bool) → Kept words t (cond c (unchanged 27 t) (unchanged 26 t)) words
+      told : (c : Bool) → Kept words t (cond c (unchanged 27 (t .count)) (unchanged 26 (t .count))) words
       told true = (refl, (refl, refl))
       told false = (refl, (refl, refl))
   kept (rows xs) (rows ys) e f = told (inReach (length xs) (length ys)) refl

@@ -22,15 +22,15 @@ tableFrom first count = record { first = first; count = count }
 
 -- an answer that refuses nothing is a 21 where there are more than 64 rows: it comes after every other check
 unfoldable pub limited : ℕ → ℕ → Table → Rewritten → Rewritten
-limited n m t r = cond (eqb (r .number) 0 && not (inReach n m)) (unchanged 21 t) r
+limited n m t r = cond (eqb (r .number) 0 && not (inReach n m)) (unchanged 21 (t .count)) r
 
 unfoldable pub limitedFetch : ℕ → Fetched → Fetched
 limitedFetch n f = cond (eqb (f .number) 0 && not (leb n 64)) (noRun 21) f
 
 -- a row of the table that is no location's is a 26, an incoming one a 27
 abbrev pub rewriteRows : Rows → Table → Rows → ℕ → Gate → Rewritten
-rewriteRows broken t incoming first gate = unchanged 26 t
-rewriteRows (rows xs) t broken first gate = cond (wellFormed xs t) (unchanged 27 t) (unchanged 26 t)
+rewriteRows broken t incoming first gate = unchanged 26 (t .count)
+rewriteRows (rows xs) t broken first gate = cond (wellFormed xs t) (unchanged 27 (t .count)) (unchanged 26 (t .count))
 rewriteRows (rows xs) t (rows ys) first gate = limited (length xs) (length ys) t (rewriteOf xs t ys first gate)
 
 -- the words of the rows after the rewrite, then what stood there; the words as they were where a row is no location's or there are more than 64
@@ -39,10 +39,6 @@ rowsAfterwards broken t incoming first gate words = words
 rowsAfterwards (rows xs) t broken first gate words = words
 rowsAfterwards (rows xs) t (rows ys) first gate words =
     cond (inReach (length xs) (length ys)) (rowsWords (rowsAfter xs t ys first gate) ++ drop (length xs * 6) words) words
-
--- nothing is replaced, and the count and the words are the old ones
-abbrev pub Kept : List ℕ → Table → Rewritten → List ℕ → Type 0
-Kept words t r later = (r .replaced ≡ 0) × ((r .count ≡ t .count) × (later ≡ words))
 
 abbrev pub fetchRows : Rows → Table → ℕ → Fetched
 fetchRows broken t gate = noRun 26

@@ -3,14 +3,9 @@
 use Prim.Native.Nat.{ℕ}
 use mathlib.Core.Bool.{Bool, _&&_}
 use mathlib.Core.List.{List}
-use Rattle.pipe_log.specs.declared.Location.{Location}
 use Rattle.location_rules.specs.declared.Table.{Table}
 use Rattle.memtable.specs.Table.{wellFormed, ready}
-use Rattle.location_rows.specs.Words.{queueOf, locationCount, areRows, located}
-
--- a row as far as a stop looks at it
-abbrev pub rowStart : ℕ → ℕ → Location
-rowStart queue seq = record { queue = queueOf queue; seq = seq; offset = 0; len = 0; «entry_offset» = 0; «entry_len» = 0 }
+use Rattle.location_rows.specs.Words.{locationCount, areRows, located}
 
 -- each row is a location's, and the table is well formed
 unfoldable pub formedWords : List ℕ → Table → Bool

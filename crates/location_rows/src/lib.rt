@@ -4,11 +4,11 @@ ghost use mathlib.Core.Path.{_≡_};
 ghost use Prim.Native.Nat.{_+_, _-_, _≤_};
 ghost use lib.ListN.{length, take, drop};
 ghost use lib.Seq.{paste};
-ghost use Rattle.location_rules.specs.Row.{stopsAt};
+ghost use Rattle.location_rules.specs.Row.{stopsAt, rowStart};
 ghost use Rattle.memtable.specs.Rows.{runOf};
 ghost use Rattle.location_rows.specs.Words.{locationCount, queueOf, areRows, located};
 ghost use Rattle.location_rows.specs.Answers.{tableFrom, limited, RowsRewritten, fetchWords};
-ghost use Rattle.location_rows.specs.Private.{rowStart, formedWords, readyWords};
+ghost use Rattle.location_rows.specs.Private.{formedWords, readyWords};
 use location_rules::Fetched;
 use location_rules::Gate;
 use location_rules::Rewritten;
@@ -99,8 +99,8 @@ fn is_ready(words: &[u64], first: u64) -> bool
     if !are_rows(words) {
         return false;
     }
-    let last = scan(words, 0, n, Stop::Append);
-    location_rules::is_ready(last, n, first)
+    let wrong = scan(words, 0, n, Stop::Append);
+    location_rules::is_ready(wrong, n, first)
 }
 
 // Whether each row is a location's.
@@ -136,7 +136,7 @@ fn scan(words: &[u64], lo: usize, hi: usize, stop: Stop) -> usize
 
 // Whether the row of this queue and file number ends the run.
 fn stops(queue: u64, seq: u64, stop: Stop) -> bool
-    ensures { λ r. ⌜ r ≡ stopsAt stop (rowStart queue seq) ⌝ }
+    ensures { λ r. ⌜ r ≡ stopsAt stop (rowStart (queueOf queue) seq) ⌝ }
 {
     let row = Location {
         queue: queue_of(queue),

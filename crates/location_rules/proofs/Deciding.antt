@@ -19,15 +19,15 @@ same-moved : {a b c d : ℕ} → a ≡ b → c ≡ d → moved a c ≡ moved b d
 same-moved e f = cc
 
 module _ (good ready : Bool) (t : Table) (start stop end : ℕ) (gate : Gate) (r : Rewritten) where
-  pub broken : good ≡ false → r ≡ unchanged 26 t → r ≡ answered good ready t (start) (stop - start) (end - start) gate
+  pub broken : good ≡ false → r ≡ unchanged 26 (t .count) → r ≡ answered good ready t (start) (stop - start) (end - start) gate
   unfolding answered
   broken g e = rw g e
 
-  pub unready : good ≡ true → ready ≡ false → r ≡ unchanged 27 t → r ≡ answered good ready t (start) (stop - start) (end - start) gate
+  pub unready : good ≡ true → ready ≡ false → r ≡ unchanged 27 (t .count) → r ≡ answered good ready t (start) (stop - start) (end - start) gate
   unfolding answered
   unready g h e = rw (g, h) e
 
-  pub apart : good ≡ true → ready ≡ true → stop ≤ start → r ≡ unchanged 0 t → r ≡ answered good ready t (start) (stop - start) (end - start) gate
+  pub apart : good ≡ true → ready ≡ true → stop ≤ start → r ≡ unchanged 0 (t .count) → r ≡ answered good ready t (start) (stop - start) (end - start) gate
   unfolding answered
   apart g h l e = rw (g, h, eq-eqb (stop - start) 0 (omega (arith, l))) e
 
@@ -36,12 +36,12 @@ module _ (good ready : Bool) (t : Table) (start stop end : ℕ) (gate : Gate) (r
     some : eqb (stop - start) 0 ≡ false
     some = ne-eqb (stop - start) 0 (λ z. omega (arith, z, l))
 
-    pub behind : t .count < start → r ≡ unchanged 24 t → r ≡ answered good ready t (start) (stop - start) (end - start) gate
+    pub behind : t .count < start → r ≡ unchanged 24 (t .count) → r ≡ answered good ready t (start) (stop - start) (end - start) gate
     unfolding answered
     behind b e = rw (g, h, some, lt-ltb (t .count) (start) b) e
 
     module _ (b : start ≤ t .count) where
-      pub before : {n : ℕ} → gate ≡ Gate.Given n → start < t .count → r ≡ unchanged 25 t → r ≡ answered good ready t (start) (stop - start) (end - start) gate
+      pub before : {n : ℕ} → gate ≡ Gate.Given n → start < t .count → r ≡ unchanged 25 (t .count) → r ≡ answered good ready t (start) (stop - start) (end - start) gate
       unfolding answered
       before k z e = rw (g, h, some, le-ltb (t .count) (start) b, k, lt-ltb (start) (t .count) z) e
 

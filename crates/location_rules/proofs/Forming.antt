@@ -46,14 +46,14 @@ module _ (t : Table) (n front back : ℕ) where
   unfolding wellFormedBy
   formed l m k e = rw (le-leb (t .count) n l, le-leb (t .count) front m, le-leb n back k) e
 
-module _ (last n first : ℕ) where
-  pub unready : last < n → false ≡ readyBy last n first
+module _ (wrong n first : ℕ) where
+  pub unready : wrong < n → false ≡ readyBy wrong n first
   unfolding readyBy
-  unready l = rw (lt-leb n last l) refl
+  unready l = rw (lt-leb n wrong l) refl
 
-  pub is-ready : {r : Bool} → n ≤ last → r ≡ indexesFit first n → r ≡ readyBy last n first
+  pub is-ready : {r : Bool} → n ≤ wrong → r ≡ indexesFit first n → r ≡ readyBy wrong n first
   unfolding readyBy
-  is-ready l e = rw (le-leb n last l) e
+  is-ready l e = rw (le-leb n wrong l) e
 
 module _ (good : Bool) (t : Table) (start end : ℕ) where
   pub fetched-broken : good ≡ false → noRun 26 ≡ fetched good t (end - start)

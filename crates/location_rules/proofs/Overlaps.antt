@@ -8,7 +8,7 @@ use native.Mathlib.Nat.{le-refl}
 use lib.Dec.{eqb}
 use borrow.Author.Tests.{eq-eqb, ne-eqb, eqb-false}
 use Rattle.location_rules.specs.declared.Overlap.{Overlap}
-use Rattle.location_rules.specs.Parts.{overlapAt, overlapOf}
+use Rattle.location_rules.specs.Parts.{overlapAt, overlapRows, overlapOf}
 
 module _ (start from len : ℕ) where
   pub none-at : len ≡ 0 → record { start = 0; end = 0; from = 0 } ≡ overlapAt start from len
@@ -28,19 +28,19 @@ nowhere a b len e = none-at a b len e
 module _ (own n first m : ℕ) (r : Overlap) where
   pub past-rows : own ≤ first → n ≤ first - own → r ≡ overlapAt 0 0 0 → r ≡ overlapOf (first - own) (own - first) n m
   unfolding overlapOf
-  past-rows l k e = e ∙ nowhere (first - own) (own - first) (min (n - (first - own)) (m - (own - first))) (omega (arith, l, k))
+  past-rows l k e = e ∙ nowhere (first - own) (own - first) (overlapRows (first - own) (own - first) n m) (omega (arith, l, k))
 
   pub past-incoming : first < own → m ≤ own - first → r ≡ overlapAt 0 0 0 → r ≡ overlapOf (first - own) (own - first) n m
   unfolding overlapOf
-  past-incoming l k e = e ∙ nowhere (first - own) (own - first) (min (n - (first - own)) (m - (own - first))) (omega (arith, l, k))
+  past-incoming l k e = e ∙ nowhere (first - own) (own - first) (overlapRows (first - own) (own - first) n m) (omega (arith, l, k))
 
   pub from-first : (s : ℕ) → own ≤ first → s ≡ min (n - (first - own)) m → r ≡ overlapAt (first - own) 0 s → r ≡ overlapOf (first - own) (own - first) n m
   unfolding overlapOf
-  from-first s l k e = e ∙ same s (min (n - (first - own)) (m - (own - first))) refl (omega (arith, l)) (omega (arith, l, k))
+  from-first s l k e = e ∙ same s (overlapRows (first - own) (own - first) n m) refl (omega (arith, l)) (omega (arith, l, k))
 
   pub from-own : (s : ℕ) → first < own → s ≡ min n (m - (own - first)) → r ≡ overlapAt 0 (own - first) s → r ≡ overlapOf (first - own) (own - first) n m
   unfolding overlapOf
-  from-own s l k e = e ∙ same s (min (n - (first - own)) (m - (own - first))) (omega (arith, l)) refl (omega (arith, l, k))
+  from-own s l k e = e ∙ same s (overlapRows (first - own) (own - first) n m) (omega (arith, l)) refl (omega (arith, l, k))
 
 -- the overlap lies in the rows, and in the incoming ones
 at-le : (t : Bool) (place from len n : ℕ) → len ≤ n - place → eqb len 0 ≡ t → (overlapAt place from len .start ≤ overlapAt place from len .end) × (overlapAt place from len .end ≤ n)
@@ -67,7 +67,7 @@ at-incoming false place from len m l e = rw e (some (eqb-false len 0 e))
 
 module _ (place from n m : ℕ) (p : Overlap) (e : p ≡ overlapOf place from n m) where
   abbrev len : ℕ
-  len = min (n - place) (m - from)
+  len = overlapRows place from n m
 
   pub over-le : p .start ≤ p .end
   unfolding overlapOf

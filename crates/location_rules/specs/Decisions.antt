@@ -1,7 +1,9 @@
 -- What a rewrite and a fetch answer, once it is known whether the table is well formed, how far the rows overlap and how long the run is.
 -- Assumes nothing.
 use Prim.Native.Nat.{ℕ, _+_, max}
+use mathlib.Core.Path.{_≡_}
 use mathlib.Core.Bool.{Bool, false, not, cond}
+use mathlib.Core.List.{List}
 use lib.Dec.{ltb, eqb}
 use Rattle.location_rules.specs.declared.Table.{Table}
 use Rattle.location_rules.specs.declared.Gate.{Gate}
@@ -24,18 +26,22 @@ abbrev pub countAfter : Gate → ℕ → ℕ → ℕ
 countAfter Gate.None reached count = max reached count
 countAfter (Gate.Given gate) reached count = reached
 
-abbrev pub unchanged : ℕ → Table → Rewritten
-unchanged number t = record { number = number; replaced = 0; count = t .count }
+abbrev pub unchanged : ℕ → ℕ → Rewritten
+unchanged number count = record { number = number; replaced = 0; count = count }
 
 -- 26, 27; nothing incoming, or no overlap: unchanged; then 24, 25; else the run is replaced
 unfoldable pub answered : Bool → Bool → Table → ℕ → ℕ → ℕ → Gate → Rewritten
 answered isFormed isReady t place overlap run gate =
-    cond (not isFormed) (unchanged 26 t)
-    (cond (not isReady) (unchanged 27 t)
-    (cond (eqb overlap 0) (unchanged 0 t)
-    (cond (ltb (t .count) place) (unchanged 24 t)
-    (cond (early gate place (t .count)) (unchanged 25 t)
+    cond (not isFormed) (unchanged 26 (t .count))
+    (cond (not isReady) (unchanged 27 (t .count))
+    (cond (eqb overlap 0) (unchanged 0 (t .count))
+    (cond (ltb (t .count) place) (unchanged 24 (t .count))
+    (cond (early gate place (t .count)) (unchanged 25 (t .count))
     (record { number = 0; replaced = run; count = countAfter gate (place + run) (t .count) })))))
+
+-- nothing is replaced, and the count and the rows, or their words, are the old ones
+abbrev pub Kept : {A : Type 0} → List A → Table → Rewritten → List A → Type 0
+Kept lent t r later = (r .replaced ≡ 0) × ((r .count ≡ t .count) × (later ≡ lent))
 
 -- a fetch that is refused
 abbrev pub noRun : ℕ → Fetched

@@ -1,4 +1,4 @@
--- The parts of the answers that look at no list of rows: they have the number of rows, and where the first row of a wrong queue stands.
+-- What looks at no list of rows, only at how many there are and where the first of a wrong queue stands: indexes that fit, the 64 rows, a table well formed, incoming rows taken, the overlap.
 -- Assumes nothing.
 use Prim.Native.Nat.{ℕ, _+_, _-_, min}
 use mathlib.Core.Bool.{Bool, _&&_, cond}
@@ -14,18 +14,21 @@ indexesFit first n = leb (first + n) 18446744073709551616
 abbrev pub inReach : ℕ → ℕ → Bool
 inReach n m = leb n 64 && leb m 64
 
--- a table of n rows, of which the first in the wrong queue stand at front, before the count, and at back, after it
+-- a table of n rows: front is where the first append row before the count stands (the count where there is none), back where the first rewrite row at the count or after it stands (n where there is none)
 unfoldable pub wellFormedBy : Table → ℕ → ℕ → ℕ → Bool
 wellFormedBy t n front back = leb (t .count) n && (leb (t .count) front && (leb n back && indexesFit (t .first) n))
 
--- n incoming rows, of which the first that is not in the rewrite queue stands at last
+-- n incoming rows, of which the first that is not in the rewrite queue stands at wrong
 unfoldable pub readyBy : ℕ → ℕ → ℕ → Bool
-readyBy last n first = leb n last && indexesFit first n
+readyBy wrong n first = leb n wrong && indexesFit first n
 
 -- the overlap of len rows from this row and that incoming row on
 abbrev pub overlapAt : ℕ → ℕ → ℕ → Overlap
 overlapAt place from len = cond (eqb len 0) (record { start = 0; end = 0; from = 0 }) (record { start = place; end = place + len; from = from })
 
--- the same of n rows and m incoming ones: as many as the shorter of what is left
+-- how many rows overlap, of n from this row on and m incoming ones from that row on: as many as the shorter of what is left
+abbrev pub overlapRows : ℕ → ℕ → ℕ → ℕ → ℕ
+overlapRows place from n m = min (n - place) (m - from)
+
 unfoldable pub overlapOf : ℕ → ℕ → ℕ → ℕ → Overlap
-overlapOf place from n m = overlapAt place from (min (n - place) (m - from))
+overlapOf place from n m = overlapAt place from (overlapRows place from n m)

@@ -1,5 +1,6 @@
 -- One row: which queue it is in, and whether it ends a run.
 -- Assumes nothing.
+use Prim.Native.Nat.{ℕ}
 use mathlib.Core.Bool.{Bool, true, false}
 use lib.Dec.{ltb}
 use Rattle.pipe_log.specs.declared.Location.{Location}
@@ -25,3 +26,7 @@ abbrev pub stopsAt : Stop → Location → Bool
 stopsAt Stop.Append row = inAppend row
 stopsAt Stop.Rewrite row = inRewrite row
 stopsAt (Stop.Above gate) row = ltb gate (row .seq)
+
+-- a row as far as a stop looks at it
+abbrev pub rowStart : LogQueue → ℕ → Location
+rowStart queue seq = record { queue = queue; seq = seq; offset = 0; len = 0; «entry_offset» = 0; «entry_len» = 0 }

@@ -4,7 +4,7 @@ ghost use mathlib.Core.Path.{_≡_};
 ghost use Prim.Native.Nat.{_+_, _-_, _<_, max};
 ghost use Rattle.location_rules.specs.Row.{stopsAt};
 ghost use Rattle.location_rules.specs.Parts.{indexesFit, wellFormedBy, readyBy, overlapAt, overlapOf};
-ghost use Rattle.location_rules.specs.Decisions.{stopOf, answered, noRun, fetched};
+ghost use Rattle.location_rules.specs.Decisions.{stopOf, unchanged, answered, noRun, fetched};
 use pipe_log::Location;
 use pipe_log::LogQueue;
 use words::least;
@@ -114,10 +114,10 @@ pub fn is_formed(table: Table, n: usize, front: usize, back: usize) -> bool
 }
 
 // Whether n incoming rows are taken, by where the first that is not in the rewrite queue stands.
-pub fn is_ready(last: usize, n: usize, first: u64) -> bool
-    ensures { λ r. ⌜ r ≡ readyBy last n first ⌝ }
+pub fn is_ready(wrong: usize, n: usize, first: u64) -> bool
+    ensures { λ r. ⌜ r ≡ readyBy wrong n first ⌝ }
 {
-    if last < n {
+    if wrong < n {
         return false;
     }
     fits(first, n)
@@ -202,7 +202,7 @@ pub fn decide(
 
 // The answer to a rewrite that changes no row and leaves the count: refused with this number, or 0.
 pub fn unchanged(number: u32, count: usize) -> Rewritten
-    ensures { λ r. ⌜ r ≡ record { number = number; replaced = 0; count = count } ⌝ }
+    ensures { λ r. ⌜ r ≡ unchanged number count ⌝ }
 {
     Rewritten {
         number,

@@ -47,11 +47,11 @@ module _ (len other : ℕ) where
   used-all l m = rw (reached l m) refl
 
   module _ (t : Table) (r a : Rewritten) where
-    pub answer-many : 64 < len → a ≡ unchanged 21 t → a ≡ answerOf len other t r
+    pub answer-many : 64 < len → a ≡ unchanged 21 (t .count) → a ≡ answerOf len other t r
     unfolding answerOf
     answer-many l e = rw (too-many l) e
 
-    pub answer-many-other : len ≤ 64 → 64 < other → a ≡ unchanged 21 t → a ≡ answerOf len other t r
+    pub answer-many-other : len ≤ 64 → 64 < other → a ≡ unchanged 21 (t .count) → a ≡ answerOf len other t r
     unfolding answerOf
     answer-many-other l m e = rw (others-many l m) e
 

@@ -17,7 +17,7 @@ use Rattle.memtable.specs.Fetching.{fetchOf}
 
 -- more than 64 rows: 21, nothing replaced and the old count
 unfoldable pub answerOf : ℕ → ℕ → Table → Rewritten → Rewritten
-answerOf len count t r = cond (inReach len count) r (unchanged 21 t)
+answerOf len count t r = cond (inReach len count) r (unchanged 21 (t .count))
 
 unfoldable pub fetchedOf : ℕ → Fetched → Fetched
 fetchedOf len r = cond (leb len 64) r (noRun 21)

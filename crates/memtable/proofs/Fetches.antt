@@ -39,7 +39,7 @@ unfolding answered
 passed good isReady t p o k gate g r some e = rw (g, r, ne-eqb o 0 some, e, le-ltb (t .count) (t .count) (omega arith)) refl
 
 -- nothing overlaps
-none : (good isReady : Bool) (t : Table) (p o k : ℕ) (gate : Gate) → good ≡ true → isReady ≡ true → o ≡ 0 → answered good isReady t p o k gate ≡ unchanged 0 t
+none : (good isReady : Bool) (t : Table) (p o k : ℕ) (gate : Gate) → good ≡ true → isReady ≡ true → o ≡ 0 → answered good isReady t p o k gate ≡ unchanged 0 (t .count)
 unfolding answered
 none good isReady t p o k gate g r e = rw (g, r, eq-eqb o 0 e) refl
 
@@ -81,6 +81,6 @@ module _ (rows : List Location) (t : Table) (gate : ℕ) (incoming : List Locati
       told : (b : Bool) → eqb long 0 ≡ b → answered (wellFormed rows t) (ready incoming at) t (startPlace t at) (overlapLength rows t incoming at) (runLength rows t incoming at (Gate.Given gate)) (Gate.Given gate) ≡ record { number = 0; replaced = long; count = t .count + long }
       told true e = none (wellFormed rows t) (ready incoming at) t (startPlace t at) (overlapLength rows t incoming at) (runLength rows t incoming at (Gate.Given gate)) (Gate.Given gate) formed is-ready (overlap-is ∙ eqb-true long 0 e) ∙ same long (eqb-true long 0 e)
         where
-          same : (k : ℕ) → k ≡ 0 → unchanged 0 t ≡ record { number = 0; replaced = k; count = t .count + k }
+          same : (k : ℕ) → k ≡ 0 → unchanged 0 (t .count) ≡ record { number = 0; replaced = k; count = t .count + k }
           same k z = rw z (ap (λ (n : ℕ). record { number = 0; replaced = 0; count = n }) (omega arith))
       told false e = passed (wellFormed rows t) (ready incoming at) t (startPlace t at) (overlapLength rows t incoming at) (runLength rows t incoming at (Gate.Given gate)) gate formed is-ready (λ z. eqb-false long 0 e (sym overlap-is ∙ z)) at-count ∙ ap answer run-is

@@ -19,7 +19,7 @@ use Rattle.memtable.specs.Rewriting.{startPlace, startFrom, overlapLengt
 use Rattle.memtable.proofs.RunLaws.{run-take-le}
 
 pub data Outcome (good isReady : Bool) (t : Table) (place overlap run : ℕ) (gate : Gate) : Rewritten → Type 0 where
-  kept : (number : ℕ) → Outcome good isReady t place overlap run gate (unchanged number t)
+  kept : (number : ℕ) → Outcome good isReady t place overlap run gate (unchanged number (t .count))
   done : good ≡ true → isReady ≡ true → (overlap ≡ 0 → ⊥) → place ≤ t .count → early gate place (t .count) ≡ false
       → Outcome good isReady t place overlap run gate (record { number = 0; replaced = run; count = countAfter gate (place + run) (t .count) })
 

@@ -10,12 +10,12 @@ use lib.Seq.{drop-cons}
 use Rattle.pipe_log.specs.declared.Location.{Location}
 use Rattle.pipe_log.specs.declared.LogQueue.{LogQueue}
 use Rattle.location_rules.specs.declared.Stop.{Stop}
-use Rattle.location_rules.specs.Row.{stopsAt}
+use Rattle.location_rules.specs.Row.{stopsAt, rowStart}
 use Rattle.memtable.specs.Rows.{runOf}
 
 -- what `getD` gives past the end, where nothing asks for it
 abbrev pub noRow : Location
-noRow = record { queue = LogQueue.Append; seq = 0; offset = 0; len = 0; «entry_offset» = 0; «entry_len» = 0 }
+noRow = rowStart LogQueue.Append 0
 
 module _ (s : Stop) (ys : List Location) (hi : ℕ) where
   -- the run from i on, before hi

@@ -20,13 +20,13 @@ use Rattle.location_rules.specs.declared.Gate.{Gate}
 use Rattle.location_rules.specs.declared.Stop.{Stop}
 use Rattle.location_rules.specs.declared.Rewritten.{Rewritten}
 use Rattle.location_rules.specs.declared.Fetched.{Fetched}
-use Rattle.location_rules.specs.Row.{inAppend, inRewrite}
+use Rattle.location_rules.specs.Row.{inAppend, inRewrite, rowStart}
 use Rattle.memtable.specs.Rows.{runOf, rowsIn}
 use Rattle.memtable.specs.Table.{all, wellFormed, ready}
-use Rattle.location_rules.specs.Decisions.{stopOf, early, countAfter, answered, fetched}
+use Rattle.location_rules.specs.Decisions.{stopOf, early, countAfter, answered, Kept, fetched}
 use Rattle.memtable.specs.Rewriting.{startPlace, startFrom, rewriteOf, rowsAfter, newTable, Rewrote}
 use Rattle.memtable.specs.Fetching.{fetchOf, fetchedAt}
-use Rattle.memtable.specs.Examples.{row, last, Appended, Incoming}
+use Rattle.memtable.specs.Examples.{last, appended, incomingRow}
 use Rattle.memtable.proofs.rewrite as rw-fn
 use Rattle.memtable.proofs.Queues.{all-take, all-drop}
 use Rattle.memtable.proofs.RunLaws.{run-over}
@@ -68,7 +68,7 @@ module _ (rows : List Location) (t : Table) (incoming : List Location) (first : 
       told _ (done g h o l e) = length-same rows p src (run rows t incoming first gate) (run-in-rows rows t incoming first gate o) (run-in-source rows t incoming first gate)
 
   -- "A refused one holds 0 and the old count", and lent memory is unchanged.
-  pub refused-kept : (rewriteOf rows t incoming first gate .number ≡ 0 → ⊥) → (rewriteOf rows t incoming first gate .replaced ≡ 0) × ((rewriteOf rows t incoming first gate .count ≡ t .count) × (rowsAfter rows t incoming first gate ≡ rows))
+  pub refused-kept : (rewriteOf rows t incoming first gate .number ≡ 0 → ⊥) → Kept rows t (rewriteOf rows t incoming first gate) (rowsAfter rows t incoming first gate)
   refused-kept z = let k : (rewriteOf rows t incoming first gate .replaced ≡ 0) × (rewriteOf rows t incoming first gate .count ≡ t .count) = told (rewriteOf rows t incoming first gate) (outcome rows t incoming first gate) z in (k .0, (k .1, after-is rows t incoming first gate ∙ ap (paste rows p src) (k .0) ∙ sym same))
     where
       told : (r : Rewritten) → Outcomes rows t incoming first gate r → (r .number ≡ 0 → ⊥) → (r .replaced ≡ 0) × (r .count ≡ t .count)
@@ -178,14 +178,14 @@ module _ (rows : List Location) (t : Table) (gate : ℕ) (incoming : List Locati
       is : (fetchOf rows t gate .place ≡ t .count) × (fetchOf rows t gate .len ≡ runOf (Stop.Above gate) (drop (t .count) rows))
       is = fetched-formed rows t gate formed
 
-  pub fetched-next : fetchOf (rowsAfter rows t incoming (fetchedAt rows t gate) (Gate.Given gate)) (record { first = t .first; count = rewriteOf rows t incoming (fetchedAt rows t gate) (Gate.Given gate) .count }) gate ≡ record { number = 0; place = t .count + fetchOf rows t gate .len; len = 0 }
+  pub fetched-next : fetchOf (rowsAfter rows t incoming (fetchedAt rows t gate) (Gate.Given gate)) (newTable rows t incoming (fetchedAt rows t gate) (Gate.Given gate)) gate ≡ record { number = 0; place = t .count + fetchOf rows t gate .len; len = 0 }
   fetched-next = fetched-is later-rows later-table gate (formed-stays rows t incoming (fetchedAt rows t gate) (Gate.Given gate) formed) ∙ next (later-table .count) (runOf (Stop.Above gate) (drop (later-table .count) later-rows)) raised empty
     where
       later-rows : List Location
       later-rows = rowsAfter rows t incoming (fetchedAt rows t gate) (Gate.Given gate)
 
       later-table : Table
-      later-table = record { first = t .first; count = rewriteOf rows t incoming (fetchedAt rows t gate) (Gate.Given gate) .count }
+      later-table = newTable rows t incoming (fetchedAt rows t gate) (Gate.Given gate)
 
       long : ℕ
       long = fetchOf rows t gate .len
@@ -234,10 +234,10 @@ pub ready-not-past : (incoming : List Location) (first : ℕ) → ready incoming
 ready-not-past incoming first e = omega (arith, ready-fits incoming first e)
 
 -- So it is with one row of the append queue at the last index, rewritten by one at the last index; and two rows from there are a 26, two incoming ones a 27.
-pub at-last-index : (rewriteOf Appended last Incoming 18446744073709551615 (Gate.Given 1) ≡ record { number = 0; replaced = 1; count = 1 }) × ((rowsAfter Appended last Incoming 18446744073709551615 (Gate.Given 1) ≡ Incoming) × (fetchOf Appended last 1 ≡ record { number = 0; place = 0; len = 1 }))
+pub at-last-index : (rewriteOf appended last incomingRow 18446744073709551615 (Gate.Given 1) ≡ record { number = 0; replaced = 1; count = 1 }) × ((rowsAfter appended last incomingRow 18446744073709551615 (Gate.Given 1) ≡ incomingRow) × (fetchOf appended last 1 ≡ record { number = 0; place = 0; len = 1 }))
 unfolding rewriteOf rowsAfter fetchOf fetched answered wellFormed ready
 at-last-index = (refl, (refl, refl))
 
-pub past-last-index : (rewriteOf (row LogQueue.Append 1 ∷ Appended) last Incoming 18446744073709551615 (Gate.Given 1) .number ≡ 26) × (rewriteOf Appended last (row LogQueue.Rewrite 5 ∷ Incoming) 18446744073709551615 (Gate.Given 1) .number ≡ 27)
+pub past-last-index : (rewriteOf (rowStart LogQueue.Append 1 ∷ appended) last incomingRow 18446744073709551615 (Gate.Given 1) .number ≡ 26) × (rewriteOf appended last (rowStart LogQueue.Rewrite 5 ∷ incomingRow) 18446744073709551615 (Gate.Given 1) .number ≡ 27)
 unfolding rewriteOf answered wellFormed ready
 past-last-index = (refl, refl)

@@ -1,6 +1,6 @@
 -- What a rewrite of locations answers, and the rows afterwards.
 -- Assumes nothing.
-use Prim.Native.Nat.{ℕ, _-_, min}
+use Prim.Native.Nat.{ℕ, _-_}
 use mathlib.Core.Path.{_≡_}
 use mathlib.Core.List.{List}
 use lib.ListN.{length, take, drop}
@@ -9,6 +9,7 @@ use Rattle.pipe_log.specs.declared.Location.{Location}
 use Rattle.location_rules.specs.declared.Table.{Table}
 use Rattle.location_rules.specs.declared.Gate.{Gate}
 use Rattle.location_rules.specs.declared.Rewritten.{Rewritten}
+use Rattle.location_rules.specs.Parts.{overlapRows}
 use Rattle.location_rules.specs.Decisions.{stopOf, answered}
 use Rattle.memtable.specs.Rows.{runOf}
 use Rattle.memtable.specs.Table.{wellFormed, ready}
@@ -22,7 +23,7 @@ startFrom t first = t .first - first
 
 -- how many rows the overlap has: 0 where there is none, or nothing incoming
 abbrev pub overlapLength : List Location → Table → List Location → ℕ → ℕ
-overlapLength rows t incoming first = min (length rows - startPlace t first) (length incoming - startFrom t first)
+overlapLength rows t incoming first = overlapRows (startPlace t first) (startFrom t first) (length rows) (length incoming)
 
 -- the rows of the overlap from its start until its end or the first stop
 abbrev pub runLength : List Location → Table → List Location → ℕ → Gate → ℕ

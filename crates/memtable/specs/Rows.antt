@@ -12,7 +12,7 @@ abbrev pub runOf : Stop → List Location → ℕ
 runOf stop [] = 0
 runOf stop (row ∷ rows) = cond (stopsAt stop row) 0 (suc (runOf stop rows))
 
--- how many rows are in a queue
+-- how many rows pass a test, such as being in a queue
 abbrev pub rowsIn : (Location → Bool) → List Location → ℕ
 rowsIn test [] = 0
 rowsIn test (row ∷ rows) = cond (test row) (suc (rowsIn test rows)) (rowsIn test rows)

@@ -27,8 +27,8 @@ pub fn rewrite(
     ensures { λ r. ⌜ Rewrote (now (rows .entry)) table (now (incoming .entry)) first gate r (now (rows .exit)) ⌝ }
 {
     let good = is_well_formed(rows, table);
-    let last = scan(incoming, 0, incoming.len(), Stop::Append);
-    let ready = location_rules::is_ready(last, incoming.len(), first);
+    let wrong = scan(incoming, 0, incoming.len(), Stop::Append);
+    let ready = location_rules::is_ready(wrong, incoming.len(), first);
     let over = location_rules::overlap_of(table.first, rows.len(), first, incoming.len());
     let stop = location_rules::stop_of(gate);
     let end = scan(rows, over.start, over.end, stop);

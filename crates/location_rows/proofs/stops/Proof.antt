@@ -1,6 +1,5 @@
 -- `location_rows::stops` meets its contract: a stop looks at the queue and the file number alone.
 -- Assumes nothing.
-use Rattle.location_rows.proofs.Scans.{stops-start}
 use borrow.Author.Needs.{needs}
 use Rattle.location_rows.proofs.stops.Statement.{statement}
 use Rattle.location_rows.proofs.stops.Tie as tie
@@ -12,7 +11,7 @@ stops-requires : tie.Need-stops-requires
 stops-requires c κs = search needs
 
 returns : tie.Need-returns
-returns c = stops-start (c .before .before .args .stop) (c .before .before .args .seq) (c .before .before .args .queue) (c .before .queue-of .ensures) (c .stops .ensures)
+returns c = rw (← c .before .queue-of .ensures) (c .stops .ensures)
 
 pub stops-spec : {M : Type 1} → statement M
 stops-spec = tie.close (tie.spec queue-of-requires stops-requires returns)
