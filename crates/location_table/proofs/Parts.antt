@@ -72,9 +72,9 @@ chosen : (b : Bool) (len n : ℕ) → (b ≡ true → len ≤ 64) → n ≡ cond
 chosen true len n l e = omega (arith, l refl)
 chosen false len n l e = omega arith
 
-pub used-le : (len count n : ℕ) → n ≡ rowsUsed len count → n ≤ 64
+pub used-le : (len many n : ℕ) → n ≡ rowsUsed len many → n ≤ 64
 unfolding rowsUsed
-used-le len count n e = chosen (inReach len count) len n (λ z. leb-true len 64 (and-eq-true-iff (leb len 64) (leb count 64) .0 z .0)) e
+used-le len many n e = chosen (inReach len many) len n (λ z. leb-true len 64 (and-eq-true-iff (leb len 64) (leb many 64) .0 z .0)) e
 
 module _ (xs : List Location) (n : ℕ) (l : n ≤ 64) (long : length xs ≡ 64) where
   pub part-long : length (take n xs) ≡ n
@@ -92,11 +92,11 @@ module _ (xs : List Location) (n : ℕ) (l : n ≤ 64) (long : length xs ≡ 64)
 pub whole-long : (xs : List Location) (n : ℕ) (zs : List Location) → length zs ≡ length (take n xs) → length xs ≡ 64 → length (zs ++ drop n xs) ≡ 64
 whole-long xs n zs e l = length-front xs zs n e ∙ l
 
-module _ (xs : List Location) (len : ℕ) (t : Table) (ys : List Location) (count first : ℕ) (gate : Gate) (n m : ℕ) where
-  -- the test is the same with the two counts exchanged
-  used-in : (b : Bool) → inReach len count ≡ b → n ≡ rowsUsed len count → m ≡ rowsUsed count len → (n ≡ cond b len 0) × (m ≡ cond b count 0)
+module _ (xs : List Location) (len : ℕ) (t : Table) (ys : List Location) (many first : ℕ) (gate : Gate) (n m : ℕ) where
+  -- the test is the same with the two numbers exchanged
+  used-in : (b : Bool) → inReach len many ≡ b → n ≡ rowsUsed len many → m ≡ rowsUsed many len → (n ≡ cond b len 0) × (m ≡ cond b many 0)
   unfolding rowsUsed
-  used-in b z e₁ e₂ = (e₁ ∙ ap (λ (x : Bool). cond x len 0) z, e₂ ∙ ap (λ (x : Bool). cond x count 0) (and-comm (leb count 64) (leb len 64) ∙ z))
+  used-in b z e₁ e₂ = (e₁ ∙ ap (λ (x : Bool). cond x len 0) z, e₂ ∙ ap (λ (x : Bool). cond x many 0) (and-comm (leb many 64) (leb len 64) ∙ z))
 
   nothing-left : (zs : List Location) → length zs ≡ 0 → zs ++ xs ≡ xs
   nothing-left [] e = refl
@@ -105,28 +105,28 @@ module _ (xs : List Location) (len : ℕ) (t : Table) (ys : List Location) (coun
       no : suc (length zs) ≡ 0 → ⊥
       no h = omega arith
 
-  pub rows-are : (zs : List Location) → n ≡ rowsUsed len count → m ≡ rowsUsed count len → length zs ≡ length (take n xs) → zs ≡ rowsAfter (take n xs) t (take m ys) first gate → zs ++ drop n xs ≡ rowsValue xs len t ys count first gate
+  pub rows-are : (zs : List Location) → n ≡ rowsUsed len many → m ≡ rowsUsed many len → length zs ≡ length (take n xs) → zs ≡ rowsAfter (take n xs) t (take m ys) first gate → zs ++ drop n xs ≡ rowsValue xs len t ys many first gate
   unfolding rowsValue
-  rows-are zs e₁ e₂ long e = told (inReach len count) refl
+  rows-are zs e₁ e₂ long e = told (inReach len many) refl
     where
-      told : (b : Bool) → inReach len count ≡ b → zs ++ drop n xs ≡ cond (inReach len count) (rowsAfter (take len xs) t (take count ys) first gate ++ drop len xs) xs
+      told : (b : Bool) → inReach len many ≡ b → zs ++ drop n xs ≡ cond (inReach len many) (rowsAfter (take len xs) t (take many ys) first gate ++ drop len xs) xs
       told true z = rw z (all-used (used-in true z e₁ e₂ .0) (used-in true z e₁ e₂ .1))
         where
-          all-used : n ≡ len → m ≡ count → zs ++ drop n xs ≡ rowsAfter (take len xs) t (take count ys) first gate ++ drop len xs
+          all-used : n ≡ len → m ≡ many → zs ++ drop n xs ≡ rowsAfter (take len xs) t (take many ys) first gate ++ drop len xs
           all-used a b = cc
       told false z = rw z (none-used (used-in false z e₁ e₂ .0))
         where
           none-used : n ≡ 0 → zs ++ drop n xs ≡ xs
           none-used a = ap (λ (k : ℕ). zs ++ drop k xs) a ∙ nothing-left zs (long ∙ ap (λ (k : ℕ). length (take k xs)) a)
 
-  pub answer-is : (d r : Rewritten) → n ≡ rowsUsed len count → m ≡ rowsUsed count len → d ≡ rewriteOf (take n xs) t (take m ys) first gate → r ≡ answerOf len count t d → r ≡ rewriteValue xs len t ys count first gate
+  pub answer-is : (d r : Rewritten) → n ≡ rowsUsed len many → m ≡ rowsUsed many len → d ≡ rewriteOf (take n xs) t (take m ys) first gate → r ≡ answerOf len many t d → r ≡ rewriteValue xs len t ys many first gate
   unfolding rewriteValue answerOf
-  answer-is d r e₁ e₂ e f = f ∙ told (inReach len count) refl
+  answer-is d r e₁ e₂ e f = f ∙ told (inReach len many) refl
     where
-      told : (b : Bool) → inReach len count ≡ b → answerOf len count t d ≡ answerOf len count t (rewriteOf (take len xs) t (take count ys) first gate)
+      told : (b : Bool) → inReach len many ≡ b → answerOf len many t d ≡ answerOf len many t (rewriteOf (take len xs) t (take many ys) first gate)
       told true z = rw z (all-used (used-in true z e₁ e₂ .0) (used-in true z e₁ e₂ .1))
         where
-          all-used : n ≡ len → m ≡ count → d ≡ rewriteOf (take len xs) t (take count ys) first gate
+          all-used : n ≡ len → m ≡ many → d ≡ rewriteOf (take len xs) t (take many ys) first gate
           all-used a b = cc
       told false z = rw z refl
 

@@ -4,6 +4,6 @@ use Prim.Native.Nat.{ℕ}
 use mathlib.Core.Bool.{cond}
 use Rattle.location_rules.specs.Parts.{inReach}
 
--- the rows that count where another number of rows is at most 64 too
+-- how many of these rows are lent: none where there are more than 64 of them or of the others
 unfoldable pub rowsUsed : ℕ → ℕ → ℕ
-rowsUsed len count = cond (inReach len count) len 0
+rowsUsed len other = cond (inReach len other) len 0

@@ -17,17 +17,17 @@ use Rattle.memtable.specs.Fetching.{fetchOf}
 
 -- more than 64 rows: 21, nothing replaced and the old count
 unfoldable pub answerOf : ℕ → ℕ → Table → Rewritten → Rewritten
-answerOf len count t r = cond (inReach len count) r (unchanged 21 (t .count))
+answerOf len many t r = cond (inReach len many) r (unchanged 21 (t .count))
 
 unfoldable pub fetchedOf : ℕ → Fetched → Fetched
 fetchedOf len r = cond (leb len 64) r (noRun 21)
 
 unfoldable pub rewriteValue : List Location → ℕ → Table → List Location → ℕ → ℕ → Gate → Rewritten
-rewriteValue rows len t incoming count first gate = answerOf len count t (rewriteOf (take len rows) t (take count incoming) first gate)
+rewriteValue rows len t incoming many first gate = answerOf len many t (rewriteOf (take len rows) t (take many incoming) first gate)
 
 -- the rows used are those after the rewrite, and the others as they were
 unfoldable pub rowsValue : List Location → ℕ → Table → List Location → ℕ → ℕ → Gate → List Location
-rowsValue rows len t incoming count first gate = cond (inReach len count) (rowsAfter (take len rows) t (take count incoming) first gate ++ drop len rows) rows
+rowsValue rows len t incoming many first gate = cond (inReach len many) (rowsAfter (take len rows) t (take many incoming) first gate ++ drop len rows) rows
 
 unfoldable pub fetchValue : List Location → ℕ → Table → ℕ → Fetched
 fetchValue rows len t gate = fetchedOf len (fetchOf (take len rows) t gate)

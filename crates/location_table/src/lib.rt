@@ -11,20 +11,20 @@ use location_rules::no_run;
 use location_rules::unchanged;
 use pipe_log::Location;
 
-// The rows after a rewrite of the first `len` rows by the first `count` incoming ones. More than 64 of either: as they were.
+// The rows after a rewrite of the first `len` rows by the first `many` incoming ones. More than 64 of either: as they were.
 pub fn rows_after(
     rows: [Location; 64],
     len: usize,
     table: Table,
     incoming: [Location; 64],
-    count: usize,
+    many: usize,
     first: u64,
     gate: Gate,
 ) -> [Location; 64]
-    ensures { λ r. ⌜ r ≡ rowsValue rows len table incoming count first gate ⌝ }
+    ensures { λ r. ⌜ r ≡ rowsValue rows len table incoming many first gate ⌝ }
 {
-    let n = used(len, count);
-    let m = used(count, len);
+    let n = used(len, many);
+    let m = used(many, len);
     let mut t = rows;
     let i = incoming;
     let _r = memtable::rewrite(&mut t[..n], table, &i[..m], first, gate);
@@ -37,18 +37,18 @@ pub fn rewrite(
     len: usize,
     table: Table,
     incoming: [Location; 64],
-    count: usize,
+    many: usize,
     first: u64,
     gate: Gate,
 ) -> Rewritten
-    ensures { λ r. ⌜ r ≡ rewriteValue rows len table incoming count first gate ⌝ }
+    ensures { λ r. ⌜ r ≡ rewriteValue rows len table incoming many first gate ⌝ }
 {
-    let n = used(len, count);
-    let m = used(count, len);
+    let n = used(len, many);
+    let m = used(many, len);
     let mut t = rows;
     let i = incoming;
     let r = memtable::rewrite(&mut t[..n], table, &i[..m], first, gate);
-    answer(len, count, table, r)
+    answer(len, many, table, r)
 }
 
 // The fetch before a gate of the first `len` rows. More than 64: 21.
@@ -79,13 +79,13 @@ fn used(len: usize, other: usize) -> usize
     len
 }
 
-fn answer(len: usize, count: usize, table: Table, r: Rewritten) -> Rewritten
-    ensures { λ a. ⌜ a ≡ answerOf len count table r ⌝ }
+fn answer(len: usize, many: usize, table: Table, r: Rewritten) -> Rewritten
+    ensures { λ a. ⌜ a ≡ answerOf len many table r ⌝ }
 {
     if 64 < len {
         return unchanged(refusal::OUTPUT_SHORT, table.count);
     }
-    if 64 < count {
+    if 64 < many {
         return unchanged(refusal::OUTPUT_SHORT, table.count);
     }
     r

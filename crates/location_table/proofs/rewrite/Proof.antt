@@ -100,17 +100,17 @@ module _ {M : Type 1} (𝓤 : URA M) (H : Heap 𝓤) (A : Atoms 𝓤) (at-mem : 
   abbrev Answer : Contract 𝓤
   Answer = tripleOf 𝓤 H A an.signature (an.spec 𝓤 H A at-mem run)
 
-module _ {M : Type 1} (𝓤 : URA M) (H : Heap 𝓤) (A : Atoms 𝓤) (W : Given 𝓤 H A) (at-mem : Memory → SProp 𝓤) (run : Routine → Fun 𝓤) (xs : List Location) (len : ℕ) (t : Table) (ys : List Location) (count fst : ℕ) (gate : Gate) (va vb v : Val)
-    (ia : Is (Array R 64) xs (va ∷ [])) (gn : len < 2 ^ 64) (it : Is Tb.the-row t (valT t ∷ [])) (ib : Is (Array R 64) ys (vb ∷ [])) (gm : count < 2 ^ 64) (gf : fst < 2 ^ 64) (gg : Is G.the-row gate (v ∷ []))
+module _ {M : Type 1} (𝓤 : URA M) (H : Heap 𝓤) (A : Atoms 𝓤) (W : Given 𝓤 H A) (at-mem : Memory → SProp 𝓤) (run : Routine → Fun 𝓤) (xs : List Location) (len : ℕ) (t : Table) (ys : List Location) (many fst : ℕ) (gate : Gate) (va vb v : Val)
+    (ia : Is (Array R 64) xs (va ∷ [])) (gn : len < 2 ^ 64) (it : Is Tb.the-row t (valT t ∷ [])) (ib : Is (Array R 64) ys (vb ∷ [])) (gm : many < 2 ^ 64) (gf : fst < 2 ^ 64) (gg : Is G.the-row gate (v ∷ []))
     (wa : Holds (hasTy (tyAt body.locals 1) va) × WT va) (wb : Holds (hasTy (tyAt body.locals 4) vb) × WT vb) (wg : Holds (hasTy (tyAt body.locals 7) v) × WT v) (lx : length xs ≡ 64) (ly : length ys ≡ 64) where
   abbrev Arg : Type 0
   Arg = List Location × (ℕ × (Table × (List Location × (ℕ × (ℕ × (Gate × Unit {0}))))))
 
   abbrev a : Arg
-  a = (xs, (len, (t, (ys, (count, (fst, (gate, tt)))))))
+  a = (xs, (len, (t, (ys, (many, (fst, (gate, tt)))))))
 
   abbrev at : Vals f.signature tt
-  at = (va ∷ [], (vint w64 len ∷ [], (valT t ∷ [], (vb ∷ [], (vint w64 count ∷ [], (vint w64 fst ∷ [], (v ∷ [], tt)))))))
+  at = (va ∷ [], (vint w64 len ∷ [], (valT t ∷ [], (vb ∷ [], (vint w64 many ∷ [], (vint w64 fst ∷ [], (v ∷ [], tt)))))))
 
   abbrev Post : Val → SProp 𝓤
   Post = walkOf 𝓤 H A f.ended stayed (f.clauses 𝓤 H A at-mem run) .post ((tt, tt, tt, a, at), tt)
@@ -119,10 +119,10 @@ module _ {M : Type 1} (𝓤 : URA M) (H : Heap 𝓤) (A : Atoms 𝓤) (W : Given
   abbrev arr : List Location → Val
   arr zs = only (array-vals vals zs)
 
-  exits : (r : Rewritten) (u : Val) → r ≡ rewriteValue xs len t ys count fst gate → ent 𝓤 (⋆ 𝓤 H A (‵ (D.the-row .own r (u ∷ [])) ∷ [])) (Post u)
+  exits : (r : Rewritten) (u : Val) → r ≡ rewriteValue xs len t ys many fst gate → ent 𝓤 (⋆ 𝓤 H A (‵ (D.the-row .own r (u ∷ [])) ∷ [])) (Post u)
   exits r u e =
       qed W (‵ (D.the-row .own r (u ∷ [])) ∷ []) ∵ suffices ! _ (ends-at 𝓤 H A f.ended stayed (f.clauses 𝓤 H A at-mem run) W ((tt, tt, tt, a, at), tt) u r (tt, (tt, (tt, (tt, (tt, (tt, (tt, tt))))))) (tt, (tt, (tt, (tt, (tt, (tt, (tt, tt)))))))) $ says ! e $ nothing ! $
-      owned ! G.the-row (Is G.the-row) (EL.makes G.the-type G′.the-plain 𝓤 H A) gate _ gg $ fjoin ! $ owned ! u64 (Is u64) (uint-makes 𝓤 H A W w64) fst _ (refl, gf) $ fjoin ! $ owned ! usize (Is usize) (uint-makes 𝓤 H A W w64) count _ (refl, gm) $ fjoin ! $ owned ! (Array R 64) (Is (Array R 64)) (array-makes 𝓤 H A W R (LL.makes T.the-type T′.the-plain 𝓤 H A) 64) ys _ ib $ fjoin ! $ owned ! Tb.the-row (Is Tb.the-row) (LL.makes Tb.the-type Tb′.the-plain 𝓤 H A) t _ it $ fjoin ! $ owned ! usize (Is usize) (uint-makes 𝓤 H A W w64) len _ (refl, gn) $ fjoin ! $ owned ! (Array R 64) (Is (Array R 64)) (array-makes 𝓤 H A W R (LL.makes T.the-type T′.the-plain 𝓤 H A) 64) xs _ ia $ fjoin ! $ nothing ! $ done !
+      owned ! G.the-row (Is G.the-row) (EL.makes G.the-type G′.the-plain 𝓤 H A) gate _ gg $ fjoin ! $ owned ! u64 (Is u64) (uint-makes 𝓤 H A W w64) fst _ (refl, gf) $ fjoin ! $ owned ! usize (Is usize) (uint-makes 𝓤 H A W w64) many _ (refl, gm) $ fjoin ! $ owned ! (Array R 64) (Is (Array R 64)) (array-makes 𝓤 H A W R (LL.makes T.the-type T′.the-plain 𝓤 H A) 64) ys _ ib $ fjoin ! $ owned ! Tb.the-row (Is Tb.the-row) (LL.makes Tb.the-type Tb′.the-plain 𝓤 H A) t _ it $ fjoin ! $ owned ! usize (Is usize) (uint-makes 𝓤 H A W w64) len _ (refl, gn) $ fjoin ! $ owned ! (Array R 64) (Is (Array R 64)) (array-makes 𝓤 H A W R (LL.makes T.the-type T′.the-plain 𝓤 H A) 64) xs _ ia $ fjoin ! $ nothing ! $ done !
 
   -- ---- the covered functions
   module _ (len₁ len₂ : ℕ) where
@@ -137,13 +137,13 @@ module _ {M : Type 1} (𝓤 : URA M) (H : Heap 𝓤) (A : Atoms 𝓤) (W : Given
 
   module _ (d : Rewritten) where
     abbrev to-answer : Answer 𝓤 H A at-mem run .Ghost
-    to-answer = ((tt, tt, tt, (len, (count, (t, (d, tt)))), (vint w64 len ∷ [], (vint w64 count ∷ [], (valT t ∷ [], (valD d ∷ [], tt))))), tt)
+    to-answer = ((tt, tt, tt, (len, (many, (t, (d, tt)))), (vint w64 len ∷ [], (vint w64 many ∷ [], (valT t ∷ [], (valD d ∷ [], tt))))), tt)
 
     ask-answer : Is D.the-row d (valD d ∷ []) → ent 𝓤 (emp 𝓤) (Answer 𝓤 H A at-mem run .pre to-answer)
-    ask-answer is-d = qed W [] ∵ nothing ! $ owned ! D.the-row (Is D.the-row) (LL.makes D.the-type D′.the-plain 𝓤 H A) d _ is-d $ fjoin ! $ owned ! Tb.the-row (Is Tb.the-row) (LL.makes Tb.the-type Tb′.the-plain 𝓤 H A) t _ it $ fjoin ! $ owned ! usize (Is usize) (uint-makes 𝓤 H A W w64) count _ (refl, gm) $ fjoin ! $ owned ! usize (Is usize) (uint-makes 𝓤 H A W w64) len _ (refl, gn) $ fjoin ! $ nothing ! $ join ! $ frame ! $ done !
+    ask-answer is-d = qed W [] ∵ nothing ! $ owned ! D.the-row (Is D.the-row) (LL.makes D.the-type D′.the-plain 𝓤 H A) d _ is-d $ fjoin ! $ owned ! Tb.the-row (Is Tb.the-row) (LL.makes Tb.the-type Tb′.the-plain 𝓤 H A) t _ it $ fjoin ! $ owned ! usize (Is usize) (uint-makes 𝓤 H A W w64) many _ (refl, gm) $ fjoin ! $ owned ! usize (Is usize) (uint-makes 𝓤 H A W w64) len _ (refl, gn) $ fjoin ! $ nothing ! $ join ! $ frame ! $ done !
 
-    said-answer : (r : Rewritten) → ent 𝓤 (ensured 𝓤 H A an.ended (an.clauses 𝓤 H A at-mem run) tt (len, (count, (t, (d, tt)))) tt r) (fact 𝓤 (r ≡ answerOf len count t d))
-    said-answer r = exE 𝓤 _ (λ ws. snd∗ 𝓤 (sem 𝓤 H A (lasts an.ended tt (len, (count, (t, (d, tt)))) ws)) (fact 𝓤 (r ≡ answerOf len count t d)))
+    said-answer : (r : Rewritten) → ent 𝓤 (ensured 𝓤 H A an.ended (an.clauses 𝓤 H A at-mem run) tt (len, (many, (t, (d, tt)))) tt r) (fact 𝓤 (r ≡ answerOf len many t d))
+    said-answer r = exE 𝓤 _ (λ ws. snd∗ 𝓤 (sem 𝓤 H A (lasts an.ended tt (len, (many, (t, (d, tt)))) ws)) (fact 𝓤 (r ≡ answerOf len many t d)))
 
   -- ---- the call of the rewrite, of n rows and m incoming ones
   module _ (n m : ℕ) (ln : n ≤ 64) (lm : m ≤ 64) (κ κ′ : Lft) (l₁₀ l₁₁ : ℕ) (γ γ′ : GName) where
@@ -163,21 +163,21 @@ module _ {M : Type 1} (𝓤 : URA M) (H : Heap 𝓤) (A : Atoms 𝓤) (W : Given
     ask = qed W ((‵ (flft κ fullShare) ⊛ ‵ (flft κ′ fullShare) ⊛ ‵ ftrue) ∷ ‵ Own ∷ []) ∵ join ! $ frame ! $ done !
 
   module _ (C : Calls 𝓤 H) (Λ : Loops 𝓤 H) (fm : FmC 𝓤 H (W .laws) C) (known-used : Triple 𝓤 (C #used) (Used 𝓤 H A at-mem run)) (known-rewrite : Triple 𝓤 (C #rewrite) (Rewrite 𝓤 H A at-mem run)) (known-answer : Triple 𝓤 (C #answer) (Answer 𝓤 H A at-mem run)) where
-    walk : ent 𝓤 (onEntry 𝓤 H A f.signature tt tt a at) (WpFn 𝓤 H C Λ code.function (va ∷ vint w64 len ∷ valT t ∷ vb ∷ vint w64 count ∷ vint w64 fst ∷ v ∷ []) Post)
+    walk : ent 𝓤 (onEntry 𝓤 H A f.signature tt tt a at) (WpFn 𝓤 H C Λ code.function (va ∷ vint w64 len ∷ valT t ∷ vb ∷ vint w64 many ∷ vint w64 fst ∷ v ∷ []) Post)
     walk =
-        qed W (‵ ftrue ∷ ‵ (owns (Array R 64 ∷ usize ∷ Tb.the-row ∷ Array R 64 ∷ usize ∷ u64 ∷ G.the-row ∷ []) a at) ∷ []) ∵ enter ! C Λ code.function (va ∷ vint w64 len ∷ valT t ∷ vb ∷ vint w64 count ∷ vint w64 fst ∷ v ∷ []) _ $
+        qed W (‵ ftrue ∷ ‵ (owns (Array R 64 ∷ usize ∷ Tb.the-row ∷ Array R 64 ∷ usize ∷ u64 ∷ G.the-row ∷ []) a at) ∷ []) ∵ enter ! C Λ code.function (va ∷ vint w64 len ∷ valT t ∷ vb ∷ vint w64 many ∷ vint w64 fst ∷ v ∷ []) _ $
         alloc1 ! (λ l₀. alloc1 ! (λ l₁. alloc1 ! (λ l₂. alloc1 ! (λ l₃. alloc1 ! (λ l₄. alloc1 ! (λ l₅. alloc1 ! (λ l₆. alloc1 ! (λ l₇. alloc1 ! (λ l₈. alloc1 ! (λ l₉. alloc1 ! (λ l₁₀. alloc1 ! (λ l₁₁. alloc1 ! (λ l₁₂. alloc1 ! (λ l₁₃. alloc1 ! (λ l₁₄. alloc1 ! (λ l₁₅. alloc1 ! (λ l₁₆. alloc0 ! $ params1 ! $
         pass1 ! (init ! 30 refl wa) $ pass1 ! (init ! 28 refl (tt, record { fits = gn })) $ pass1 ! (init ! 26 refl (LL.lawful Tb.the-type Tb′.the-laws 𝓤 H A W .typed t _ it .0)) $ pass1 ! (init ! 24 refl wb) $ pass1 ! (init ! 22 refl (tt, record { fits = gm })) $ pass1 ! (init ! 20 refl (tt, record { fits = gf })) $ pass1 ! (init ! 18 refl wg) $ pass0 ! $
         move ! (35 ∷ []) $ drop ! $
         -- how many rows are lent
-        use0 W (raw (Used 𝓤 H A at-mem run .pre (to-used len count))) (ask-used len count gn gm) $ calls-at ! fm (Used 𝓤 H A at-mem run) known-used (to-used len count) (and-then ! (load ! (from ! (stop !)) (look ! 29 refl)) (and-then ! (load ! (from ! (stop !)) (look ! 23 refl)) (no-more !))) (λ u₁.
-        use1 W (later (some (λ (n : ℕ). (‵ ftrue ⊛ ‵ (usize .own n (u₁ ∷ []))) ⊛ raw (ensured 𝓤 H A us.ended (us.clauses 𝓤 H A at-mem run) tt (len, (count, tt)) tt n)))) (id⊢ 𝓤 _) $ await ! tt $ pick ! (λ n.
-        split ! $ move ! (1 ∷ []) $ use1 W (raw (fact 𝓤 (n ≡ rowsUsed len count))) (said-used len count n) $ heard ! (n ≡ rowsUsed len count) (λ e₁. split ! $ drop ! $ peeks ! usize (Is usize) (shows 𝓤 H A usize) n (u₁ ∷ []) (λ i₁. land ! (from ! (stop !)) (init ! 17 refl (uint-lawful 𝓤 H A W w64 .typed n _ i₁ .0)) $ drop ! $
-        rewrite ! 16 (λ (w : Val). ‵ (fat fullShare (tyAt body.locals 8) l₈ 0 w)) (ap only (i₁ .0)) refl $ use0 W (raw (Used 𝓤 H A at-mem run .pre (to-used count len))) (ask-used count len gm gn) $
-        calls-at ! fm (Used 𝓤 H A at-mem run) known-used (to-used count len) (and-then ! (load ! (from ! (stop !)) (look ! 23 refl)) (and-then ! (load ! (from ! (stop !)) (look ! 29 refl)) (no-more !))) (λ u₂.
-        use1 W (later (some (λ (m : ℕ). (‵ ftrue ⊛ ‵ (usize .own m (u₂ ∷ []))) ⊛ raw (ensured 𝓤 H A us.ended (us.clauses 𝓤 H A at-mem run) tt (count, (len, tt)) tt m)))) (id⊢ 𝓤 _) $ await ! tt $ pick ! (λ m.
-        split ! $ move ! (1 ∷ []) $ use1 W (raw (fact 𝓤 (m ≡ rowsUsed count len))) (said-used count len m) $ heard ! (m ≡ rowsUsed count len) (λ e₂. split ! $ drop ! $ peeks ! usize (Is usize) (shows 𝓤 H A usize) m (u₂ ∷ []) (λ i₂. land ! (from ! (stop !)) (init ! 15 refl (uint-lawful 𝓤 H A W w64 .typed m _ i₂ .0)) $ drop ! $
-        rewrite ! 14 (λ (w : Val). ‵ (fat fullShare (tyAt body.locals 9) l₉ 0 w)) (ap only (i₂ .0)) refl $ let ln : n ≤ 64 = used-le len count n e₁ in let lm : m ≤ 64 = used-le count len m e₂ in assigns ! (of-opd ! (load ! (from ! (stop !)) (look ! 30 refl))) (from ! (stop !)) (init ! 12 refl wa) $
+        use0 W (raw (Used 𝓤 H A at-mem run .pre (to-used len many))) (ask-used len many gn gm) $ calls-at ! fm (Used 𝓤 H A at-mem run) known-used (to-used len many) (and-then ! (load ! (from ! (stop !)) (look ! 29 refl)) (and-then ! (load ! (from ! (stop !)) (look ! 23 refl)) (no-more !))) (λ u₁.
+        use1 W (later (some (λ (n : ℕ). (‵ ftrue ⊛ ‵ (usize .own n (u₁ ∷ []))) ⊛ raw (ensured 𝓤 H A us.ended (us.clauses 𝓤 H A at-mem run) tt (len, (many, tt)) tt n)))) (id⊢ 𝓤 _) $ await ! tt $ pick ! (λ n.
+        split ! $ move ! (1 ∷ []) $ use1 W (raw (fact 𝓤 (n ≡ rowsUsed len many))) (said-used len many n) $ heard ! (n ≡ rowsUsed len many) (λ e₁. split ! $ drop ! $ peeks ! usize (Is usize) (shows 𝓤 H A usize) n (u₁ ∷ []) (λ i₁. land ! (from ! (stop !)) (init ! 17 refl (uint-lawful 𝓤 H A W w64 .typed n _ i₁ .0)) $ drop ! $
+        rewrite ! 16 (λ (w : Val). ‵ (fat fullShare (tyAt body.locals 8) l₈ 0 w)) (ap only (i₁ .0)) refl $ use0 W (raw (Used 𝓤 H A at-mem run .pre (to-used many len))) (ask-used many len gm gn) $
+        calls-at ! fm (Used 𝓤 H A at-mem run) known-used (to-used many len) (and-then ! (load ! (from ! (stop !)) (look ! 23 refl)) (and-then ! (load ! (from ! (stop !)) (look ! 29 refl)) (no-more !))) (λ u₂.
+        use1 W (later (some (λ (m : ℕ). (‵ ftrue ⊛ ‵ (usize .own m (u₂ ∷ []))) ⊛ raw (ensured 𝓤 H A us.ended (us.clauses 𝓤 H A at-mem run) tt (many, (len, tt)) tt m)))) (id⊢ 𝓤 _) $ await ! tt $ pick ! (λ m.
+        split ! $ move ! (1 ∷ []) $ use1 W (raw (fact 𝓤 (m ≡ rowsUsed many len))) (said-used many len m) $ heard ! (m ≡ rowsUsed many len) (λ e₂. split ! $ drop ! $ peeks ! usize (Is usize) (shows 𝓤 H A usize) m (u₂ ∷ []) (λ i₂. land ! (from ! (stop !)) (init ! 15 refl (uint-lawful 𝓤 H A W w64 .typed m _ i₂ .0)) $ drop ! $
+        rewrite ! 14 (λ (w : Val). ‵ (fat fullShare (tyAt body.locals 9) l₉ 0 w)) (ap only (i₂ .0)) refl $ let ln : n ≤ 64 = used-le len many n e₁ in let lm : m ≤ 64 = used-le many len m e₂ in assigns ! (of-opd ! (load ! (from ! (stop !)) (look ! 30 refl))) (from ! (stop !)) (init ! 12 refl wa) $
         assigns ! (of-opd ! (load ! (from ! (stop !)) (look ! 24 refl))) (from ! (stop !)) (init ! 10 refl wb) $ assigns ! (addr ! (from ! (stop !))) (from ! (stop !)) (init ! 6 refl (tt, tt)) $
         assigns ! (agg ! (and-then ! (load ! (from ! (stop !)) (look ! 6 refl)) (and-then ! (load ! (from ! (stop !)) (look ! 16 refl)) (no-more !)))) (from ! (stop !)) (init ! 4 refl (tt, (tt, (record { fits = i₁ .1 }, tt)))) $ assigns ! (addr ! (from ! (stop !))) (from ! (stop !)) (init ! 2 refl (tt, tt)) $
         assigns ! (agg ! (and-then ! (load ! (from ! (stop !)) (look ! 2 refl)) (and-then ! (load ! (from ! (stop !)) (look ! 14 refl)) (no-more !)))) (from ! (stop !)) (init ! 0 refl (tt, (tt, (record { fits = i₂ .1 }, tt)))) $
@@ -207,12 +207,12 @@ module _ {M : Type 1} (𝓤 : URA M) (H : Heap 𝓤) (A : Atoms 𝓤) (W : Given
         use1 W (given (Is (Array R 64) (take m ys ++ dropL m ys) (arr (take m ys ++ dropL m ys) ∷ [])) (‵ (fat fullShare (tyAt body.locals 11) l₁₁ 0 (arr (take m ys ++ dropL m ys))))) (local-in 𝓤 H A W R tt (LL.makes T.the-type T′.the-plain 𝓤 H A) vals (LL.tells T.the-type T′.the-laws) 64 (tyAt body.locals 11) refl l₁₁ (take m ys ++ dropL m ys) (whole-long ys m (take m ys) refl ly)) $ learn ! (λ _.
         use0 W (raw (Answer 𝓤 H A at-mem run .pre (to-answer d))) (ask-answer d is-d) $
         calls-at ! fm (Answer 𝓤 H A at-mem run) known-answer (to-answer d) (and-then ! (load ! (from ! (stop !)) (look ! 30 refl)) (and-then ! (load ! (from ! (stop !)) (look ! 24 refl)) (and-then ! (load ! (from ! (stop !)) (look ! 28 refl)) (and-then ! (load ! (from ! (stop !)) (look ! 12 refl)) (no-more !))))) (λ u₄.
-        use1 W (later (some (λ (r : Rewritten). (‵ ftrue ⊛ ‵ (D.the-row .own r (u₄ ∷ []))) ⊛ raw (ensured 𝓤 H A an.ended (an.clauses 𝓤 H A at-mem run) tt (len, (count, (t, (d, tt)))) tt r)))) (id⊢ 𝓤 _) $ await ! tt $ pick ! (λ r.
-        split ! $ move ! (1 ∷ []) $ use1 W (raw (fact 𝓤 (r ≡ answerOf len count t d))) (said-answer d r) $ heard ! (r ≡ answerOf len count t d) (λ e₄. split ! $ drop ! $
+        use1 W (later (some (λ (r : Rewritten). (‵ ftrue ⊛ ‵ (D.the-row .own r (u₄ ∷ []))) ⊛ raw (ensured 𝓤 H A an.ended (an.clauses 𝓤 H A at-mem run) tt (len, (many, (t, (d, tt)))) tt r)))) (id⊢ 𝓤 _) $ await ! tt $ pick ! (λ r.
+        split ! $ move ! (1 ∷ []) $ use1 W (raw (fact 𝓤 (r ≡ answerOf len many t d))) (said-answer d r) $ heard ! (r ≡ answerOf len many t d) (λ e₄. split ! $ drop ! $
         peeks ! D.the-row (Is D.the-row) (shows 𝓤 H A D.the-row) r (u₄ ∷ []) (λ i₄. land ! (from ! (stop !)) (init ! 34 refl (LL.lawful D.the-type D′.the-laws 𝓤 H A W .typed r _ i₄ .0)) $
         returns ! (look ! 34 refl) $ forget ! 1 refl $ forget ! 3 refl $ forget ! 4 refl $ forget ! 6 refl $ forget ! 8 refl $ forget ! 10 refl $ forget ! 12 refl $ forget ! 16 refl $ forget ! 18 refl $ forget ! 20 refl $ forget ! 22 refl $ forget ! 24 refl $ forget ! 26 refl $ forget ! 28 refl $ forget ! 30 refl $ forget ! 32 refl $ forget ! 34 refl $
         move ! (34 ∷ 35 ∷ []) $ free1 ! $ move ! (32 ∷ 33 ∷ []) $ free1 ! $ move ! (30 ∷ 31 ∷ []) $ free1 ! $ move ! (28 ∷ 29 ∷ []) $ free1 ! $ move ! (26 ∷ 27 ∷ []) $ free1 ! $ move ! (24 ∷ 25 ∷ []) $ free1 ! $ move ! (22 ∷ 23 ∷ []) $ free1 ! $ move ! (20 ∷ 21 ∷ []) $ free1 ! $ move ! (18 ∷ 19 ∷ []) $ free1 ! $ move ! (16 ∷ 17 ∷ []) $ free1 ! $ move ! (3 ∷ 15 ∷ []) $ free1 ! $ move ! (1 ∷ 13 ∷ []) $ free1 ! $ move ! (10 ∷ 11 ∷ []) $ free1 ! $ move ! (8 ∷ 9 ∷ []) $ free1 ! $ move ! (6 ∷ 7 ∷ []) $ free1 ! $ move ! (4 ∷ 5 ∷ []) $ free1 ! $ move ! (2 ∷ 3 ∷ []) $ free1 ! $ free0 ! $
-        keep ! (0 ∷ []) $ by ! (exits r u₄ (answer-is xs len t ys count fst gate n m d r e₁ e₂ (e₃ .0) e₄)))))))))))))))))))))))))))))))))))))))))))
+        keep ! (0 ∷ []) $ by ! (exits r u₄ (answer-is xs len t ys many fst gate n m d r e₁ e₂ (e₃ .0) e₄)))))))))))))))))))))))))))))))))))))))))))
 
 module _ {M : Type 1} (𝓤 : URA M) (H : Heap 𝓤) (A : Atoms 𝓤) (W : Given 𝓤 H A) (at-mem : Memory → SProp 𝓤) (run : Routine → Fun 𝓤) where
   walks : (C : Calls 𝓤 H) (Λ : Loops 𝓤 H) → FmC 𝓤 H (W .laws) C → Triple 𝓤 (C #used) (Used 𝓤 H A at-mem run) → Triple 𝓤 (C #rewrite) (Rewrite 𝓤 H A at-mem run) → Triple 𝓤 (C #answer) (Answer 𝓤 H A at-mem run) → Walks 𝓤 H A f.ended stayed (WpFn 𝓤 H C Λ code.function) (f.clauses 𝓤 H A at-mem run)
