@@ -5,7 +5,7 @@ use Prim.Native.Nat.{ℕ, zero, suc, _+_, _-_, _*_, _<_, _≤_}
 use native.Mathlib.Nat.{le-of-suc-le-suc, not-suc-le-zero, sub-zero, suc-sub-suc}
 use native.Mathlib.Omega.{arith}
 use mathlib.Core.Bool.{true, and-eq-true-iff}
-use mathlib.Core.List.{List, [], _∷_, _++_, append-assoc}
+use mathlib.Core.List.{List, [], _∷_, _++_, append-assoc, flatMap}
 use lib.ListN.{length, getD, take, drop, length-drop, take-append-drop}
 use lib.Seq.{drop-drop, take-add, paste}
 use borrow.Author.Tests.{leb-true}
@@ -76,6 +76,7 @@ row-back words l e =
     (sym (six words l))
 
 pub rows-back : (n : ℕ) (words : List ℕ) → n * 6 ≤ length words → areRows n words ≡ true → rowsWords (locations n words) ≡ take (n * 6) words
+unfolding flatMap
 rows-back zero words l e = refl
 rows-back (suc n) words l e =
     let h = and-eq-true-iff (startsWell words) (areRows n (drop 6 words)) .0 e in
@@ -86,6 +87,7 @@ rows-back (suc n) words l e =
     ∙ ap (λ (m : ℕ). take m words) (sym sum)
 
 rows-join : (xs ys : List Location) → rowsWords (xs ++ ys) ≡ rowsWords xs ++ rowsWords ys
+unfolding flatMap
 rows-join [] ys = refl
 rows-join (x ∷ xs) ys = ap (λ (v : List ℕ). rowWords x ++ v) (rows-join xs ys) ∙ sym (append-assoc (rowWords x) (rowsWords xs) (rowsWords ys))
 

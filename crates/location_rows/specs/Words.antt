@@ -2,7 +2,7 @@
 -- Assumes nothing.
 use Prim.Native.Nat.{ℕ, zero, suc, _/_}
 use mathlib.Core.Bool.{Bool, true, _&&_, cond}
-use mathlib.Core.List.{List, [], _∷_, _++_}
+use mathlib.Core.List.{List, [], _∷_, flatMap}
 use lib.Dec.{leb}
 use lib.ListN.{length, getD, drop}
 use Rattle.pipe_log.specs.declared.Location.{Location}
@@ -65,5 +65,4 @@ abbrev pub rowWords : Location → List ℕ
 rowWords row = queueWord (row .queue) ∷ row .seq ∷ row .offset ∷ row .len ∷ row .«entry_offset» ∷ row .«entry_len» ∷ []
 
 abbrev pub rowsWords : List Location → List ℕ
-rowsWords [] = []
-rowsWords (row ∷ more) = rowWords row ++ rowsWords more
+rowsWords = flatMap rowWords
