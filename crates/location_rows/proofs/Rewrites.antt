@@ -19,7 +19,7 @@ use Rattle.memtable.specs.Table.{wellFormed, ready}
 use Rattle.location_rules.specs.Decisions.{stopOf, unchanged, answered}
 use Rattle.memtable.specs.Rewriting.{rewriteOf, rowsAfter}
 use Rattle.location_rules.specs.Parts.{inReach, readyBy, overlapOf}
-use Rattle.location_rules.proofs.Overlaps.{over-le, over-rows}
+use Rattle.location_rules.proofs.Deciding as decide
 use Rattle.memtable.proofs.Surveys.{ready-by}
 use Rattle.memtable.proofs.Rewrites.{run-fits, rewritten-by}
 use Rattle.memtable.proofs.Theorems.{refused-kept}
@@ -28,17 +28,9 @@ use Rattle.location_rows.specs.Answers.{limited, RowsRewritten}
 use Rattle.location_rows.specs.Private.{formedWords, readyWords}
 use Rattle.location_rows.proofs.Rows.{pasted}
 use Rattle.location_rows.proofs.Surveys.{located-length, unformed, unready}
-use Rattle.location_rows.proofs.Limits.{limited-le, limited-in, limited-out, limited-refused}
+use Rattle.location_rows.proofs.Limits.{limit-refused, limit-none, limited-le, limited-out}
 
 -- ---- what is known of the words
-
-not-formed : (isReady : Bool) (t : Table) (place overlap run : ℕ) (gate : Gate) → answered false isReady t place overlap run gate ≡ unchanged 26 (t .count)
-unfolding answered
-not-formed isReady t place overlap run gate = refl
-
-not-taken : (t : Table) (place overlap run : ℕ) (gate : Gate) → answered true false t place overlap run gate ≡ unchanged 27 (t .count)
-unfolding answered
-not-taken t place overlap run gate = refl
 
 is-formed : (words : List ℕ) (t : Table) → areRows (locationCount words) words ≡ true → formedWords words t ≡ wellFormed (located words) t
 unfolding formedWords
@@ -57,9 +49,6 @@ unfolding rowsOf
 no-rows words h = rw h refl
 
 -- ---- the rewrite
-
-pub scan-room : (place from n m : ℕ) {p : Overlap} → p ≡ overlapOf place from n m → (p .start ≤ p .end) × (p .end ≤ n)
-scan-room place from n m {p} over = (over-le place from n m p over, over-rows place from n m p over)
 
 -- the facts of the calls, in their order
 module _ (words : List ℕ) (t : Table) (incoming : List ℕ) (first : ℕ) {p : Overlap}
@@ -91,14 +80,14 @@ module _ (words : List ℕ) (t : Table) (incoming : List ℕ) (first : ℕ) {p :
       -- a refusal k
       refused : (k : ℕ) → (k ≡ 0 → ⊥) → d ≡ unchanged k (t .count) → (a ≡ unchanged k (t .count)) × (later ≡ words)
       refused k f h =
-          let z : a ≡ unchanged k (t .count) = reply ∙ limited-refused (locationCount words) (locationCount incoming) t d k f h in
+          let z : a ≡ unchanged k (t .count) = reply ∙ sym (limit-refused (locationCount words) (locationCount incoming) t d (rw h f)) ∙ h in
           (z, as-before (ap (λ (w : Rewritten). w .replaced) z))
 
       -- a row of the table is no location's
       table-broken : areRows (locationCount words) words ≡ false → RowsRewritten words t incoming first gate a later
       table-broken h =
           let g : good ≡ false = formed ∙ sym (unformed words refl h t) in
-          let z = refused 26 (λ k. omega arith) (decided ∙ (rw g (not-formed isReady t (p .start) (p .end - p .start) (e - p .start) gate))) in
+          let z = refused 26 (λ k. omega arith) (decided ∙ sym (decide.broken good isReady t (p .start) (p .end) e gate _ g refl)) in
           record { answer = rw (no-rows words h) (z .0); after = rw (no-rows words h) (z .1) }
 
       module _ (h : areRows (locationCount words) words ≡ true) where
@@ -113,11 +102,11 @@ module _ (words : List ℕ) (t : Table) (incoming : List ℕ) (first : ℕ) {p :
             told true j =
                 let g : good ≡ true = good-is ∙ j in
                 let k : isReady ≡ false = taken ∙ sym (unready incoming refl i first) in
-                let z = refused 27 (λ k. omega arith) (decided ∙ (rw (g, k) (not-taken t (p .start) (p .end - p .start) (e - p .start) gate))) in
+                let z = refused 27 (λ k. omega arith) (decided ∙ sym (decide.unready good isReady t (p .start) (p .end) e gate _ g k refl)) in
                 record { answer = rw (are-rows words h, no-rows incoming i, j) (z .0); after = rw (are-rows words h, no-rows incoming i) (z .1) }
             told false j =
                 let g : good ≡ false = good-is ∙ j in
-                let z = refused 26 (λ k. omega arith) (decided ∙ (rw g (not-formed isReady t (p .start) (p .end - p .start) (e - p .start) gate))) in
+                let z = refused 26 (λ k. omega arith) (decided ∙ sym (decide.broken good isReady t (p .start) (p .end) e gate _ g refl)) in
                 record { answer = rw (are-rows words h, no-rows incoming i, j) (z .0); after = rw (are-rows words h, no-rows incoming i) (z .1) }
 
         -- all are
@@ -139,7 +128,7 @@ module _ (words : List ℕ) (t : Table) (incoming : List ℕ) (first : ℕ) {p :
             where
               told : (b : Bool) → inReach (locationCount words) (locationCount incoming) ≡ b → later ≡ cond b (rowsWords (rowsAfter (located words) t (located incoming) first gate) ++ drop (locationCount words * 6) words) words
               told true j =
-                  copied ∙ ap (λ (r : Rewritten). paste words (p .start * 6) (drop (p .from * 6) incoming) (r .replaced * 6)) (reply ∙ limited-in (locationCount words) (locationCount incoming) t d j)
+                  copied ∙ ap (λ (r : Rewritten). paste words (p .start * 6) (drop (p .from * 6) incoming) (r .replaced * 6)) (reply ∙ sym (limit-none (locationCount words) (locationCount incoming) t d j))
                   ∙ pasted (locationCount words) (locationCount incoming) words incoming (p .start) (p .from) (d .replaced) (div-mul-le-self (length words) 6) (div-mul-le-self (length incoming) 6) h i (fits .0) (fits .1)
                   ∙ ap (λ (v : List Location). rowsWords v ++ drop (locationCount words * 6) words) (rewrites .1)
               told false j =

@@ -1,14 +1,15 @@
--- Whether a table is well formed, and incoming rows are taken, by the ways through the functions that tell it from numbers.
+-- Whether a table is well formed, incoming rows are taken and there are more than 64 rows, and the run of a fetch, by the ways through the functions that tell it from numbers.
 -- Assumes nothing.
 use mathlib.Core.Path.{_≡_, refl, sym, ap}
-use Prim.Native.Nat.{ℕ, zero, suc, _+_, _-_, _<_, _≤_, _^_, max}
+use Prim.Native.Nat.{ℕ, _+_, _-_, _<_, _≤_, _^_, max}
+use native.Mathlib.Nat.{pos-of-ne-zero}
 use native.Mathlib.Omega.{arith}
 use mathlib.Core.Bool.{Bool, true, false}
 use lib.Dec.{leb}
 use borrow.Author.Tests.{le-leb, lt-leb}
 use Rattle.words.proofs.Tests.{same-test}
 use Rattle.location_rules.specs.declared.Table.{Table}
-use Rattle.location_rules.specs.Parts.{indexesFit, wellFormedBy, readyBy}
+use Rattle.location_rules.specs.Parts.{indexesFit, inReach, wellFormedBy, readyBy}
 use Rattle.location_rules.specs.Decisions.{noRun, fetched}
 
 -- indexes from first on, n of them
@@ -17,17 +18,18 @@ module _ (first n : ℕ) where
   fit-none e l = sym (le-leb (first + n) 18446744073709551616 (omega (arith, e, l)))
 
   pub fit-some : (n ≡ 0 → ⊥) → first < 2 ^ 64 → leb (n - 1) (18446744073709551615 - first) ≡ indexesFit first n
-  fit-some e l = same-test (n - 1) (18446744073709551615 - first) (first + n) 18446744073709551616 (λ h. up h (some n e)) (λ h. down h (some n e))
-    where
-      some : (k : ℕ) → (k ≡ 0 → ⊥) → 1 ≤ k
-      some zero z = absurd (z refl)
-      some (suc k) z = omega arith
+  fit-some e l = same-test (n - 1) (18446744073709551615 - first) (first + n) 18446744073709551616 (λ h. omega (arith, h, l, pos-of-ne-zero e)) (λ h. omega (arith, h, l, pos-of-ne-zero e))
 
-      up : n - 1 ≤ 18446744073709551615 - first → 1 ≤ n → first + n ≤ 18446744073709551616
-      up h k = omega (arith, l)
+-- more than 64 rows, of these or of the others
+module _ (n m : ℕ) where
+  pub too-many : 64 < n → inReach n m ≡ false
+  too-many l = rw (lt-leb n 64 l) refl
 
-      down : 18446744073709551615 - first < n - 1 → 1 ≤ n → 18446744073709551616 < first + n
-      down h k = omega (arith, l)
+  pub others-many : n ≤ 64 → 64 < m → inReach n m ≡ false
+  others-many l k = rw (le-leb n 64 l, lt-leb m 64 k) refl
+
+  pub reached : n ≤ 64 → m ≤ 64 → inReach n m ≡ true
+  reached l k = rw (le-leb n 64 l, le-leb m 64 k) refl
 
 module _ (t : Table) (n front back : ℕ) where
   pub beyond : n < t .count → false ≡ wellFormedBy t n front back

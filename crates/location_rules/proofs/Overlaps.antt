@@ -1,10 +1,10 @@
 -- The overlap of a table and incoming rows: by the ways through the functions that compute it, and that it lies in both.
 -- Assumes nothing.
 use mathlib.Core.Path.{_≡_, refl, _∙_}
-use Prim.Native.Nat.{ℕ, zero, suc, _+_, _-_, _<_, _≤_, min}
+use Prim.Native.Nat.{ℕ, _+_, _-_, _<_, _≤_, min}
 use native.Mathlib.Omega.{arith}
 use mathlib.Core.Bool.{Bool, true, false}
-use native.Mathlib.Nat.{le-refl}
+use native.Mathlib.Nat.{le-refl, pos-of-ne-zero}
 use lib.Dec.{eqb}
 use borrow.Author.Tests.{eq-eqb, ne-eqb, eqb-false}
 use Rattle.location_rules.specs.declared.Overlap.{Overlap}
@@ -21,18 +21,14 @@ module _ (start from len : ℕ) where
 same : {a b c d : ℕ} (m n : ℕ) → a ≡ b → c ≡ d → m ≡ n → overlapAt a c m ≡ overlapAt b d n
 same m n e f g = cc
 
--- no rows are an overlap at 0, 0, 0
-nowhere : (a b len : ℕ) → len ≡ 0 → overlapAt 0 0 0 ≡ overlapAt a b len
-nowhere a b len e = none-at a b len e
-
 module _ (own n first m : ℕ) (r : Overlap) where
   pub past-rows : own ≤ first → n ≤ first - own → r ≡ overlapAt 0 0 0 → r ≡ overlapOf (first - own) (own - first) n m
   unfolding overlapOf
-  past-rows l k e = e ∙ nowhere (first - own) (own - first) (overlapRows (first - own) (own - first) n m) (omega (arith, l, k))
+  past-rows l k e = e ∙ none-at (first - own) (own - first) (overlapRows (first - own) (own - first) n m) (omega (arith, l, k))
 
   pub past-incoming : first < own → m ≤ own - first → r ≡ overlapAt 0 0 0 → r ≡ overlapOf (first - own) (own - first) n m
   unfolding overlapOf
-  past-incoming l k e = e ∙ nowhere (first - own) (own - first) (overlapRows (first - own) (own - first) n m) (omega (arith, l, k))
+  past-incoming l k e = e ∙ none-at (first - own) (own - first) (overlapRows (first - own) (own - first) n m) (omega (arith, l, k))
 
   pub from-first : (s : ℕ) → own ≤ first → s ≡ min (n - (first - own)) m → r ≡ overlapAt (first - own) 0 s → r ≡ overlapOf (first - own) (own - first) n m
   unfolding overlapOf
@@ -42,41 +38,19 @@ module _ (own n first m : ℕ) (r : Overlap) where
   unfolding overlapOf
   from-own s l k e = e ∙ same s (overlapRows (first - own) (own - first) n m) (omega (arith, l)) refl (omega (arith, l, k))
 
--- the overlap lies in the rows, and in the incoming ones
-at-le : (t : Bool) (place from len n : ℕ) → len ≤ n - place → eqb len 0 ≡ t → (overlapAt place from len .start ≤ overlapAt place from len .end) × (overlapAt place from len .end ≤ n)
-at-le true place from len n l e = rw e (le-refl 0, omega arith)
-at-le false place from len n l e = rw e (omega arith, some (eqb-false len 0 e))
-  where
-    some : (len ≡ 0 → ⊥) → place + len ≤ n
-    some z = above len l z
-      where
-        above : (k : ℕ) → k ≤ n - place → (k ≡ 0 → ⊥) → place + k ≤ n
-        above zero h x = absurd (x refl)
-        above (suc k) h x = omega (arith, h)
-
-at-incoming : (t : Bool) (place from len m : ℕ) → len ≤ m - from → eqb len 0 ≡ t → overlapAt place from len .from + (overlapAt place from len .end - overlapAt place from len .start) ≤ m
-at-incoming true place from len m l e = rw e (omega arith)
-at-incoming false place from len m l e = rw e (some (eqb-false len 0 e))
-  where
-    some : (len ≡ 0 → ⊥) → from + (place + len - place) ≤ m
-    some z = above len l z
-      where
-        above : (k : ℕ) → k ≤ m - from → (k ≡ 0 → ⊥) → from + (place + k - place) ≤ m
-        above zero h x = absurd (x refl)
-        above (suc k) h x = omega (arith, h)
+lies : (t : Bool) (place from len n m : ℕ) → len ≤ n - place → len ≤ m - from → eqb len 0 ≡ t
+    → ((overlapAt place from len .start ≤ overlapAt place from len .end) × (overlapAt place from len .end ≤ n)) × (overlapAt place from len .from + (overlapAt place from len .end - overlapAt place from len .start) ≤ m)
+lies true place from len n m l k e = rw e ((le-refl 0, omega arith), omega arith)
+lies false place from len n m l k e = let some : 0 < len = pos-of-ne-zero (eqb-false len 0 e) in (rw e ((omega arith, omega (arith, l, some)), omega (arith, k, some)))
 
 module _ (place from n m : ℕ) (p : Overlap) (e : p ≡ overlapOf place from n m) where
-  abbrev len : ℕ
-  len = overlapRows place from n m
-
-  pub over-le : p .start ≤ p .end
+  within : ((p .start ≤ p .end) × (p .end ≤ n)) × (p .from + (p .end - p .start) ≤ m)
   unfolding overlapOf
-  over-le = rw e (at-le (eqb len 0) place from len n (omega arith) refl .0)
+  within = let len : ℕ = overlapRows place from n m in (rw e (lies (eqb len 0) place from len n m (omega arith) (omega arith) refl))
 
-  pub over-rows : p .end ≤ n
-  unfolding overlapOf
-  over-rows = rw e (at-le (eqb len 0) place from len n (omega arith) refl .1)
+  -- the overlap lies in the rows, and in the incoming ones
+  pub over-rows : (p .start ≤ p .end) × (p .end ≤ n)
+  over-rows = within .0
 
   pub over-incoming : p .from + (p .end - p .start) ≤ m
-  unfolding overlapOf
-  over-incoming = rw e (at-incoming (eqb len 0) place from len m (omega arith) refl)
+  over-incoming = within .1

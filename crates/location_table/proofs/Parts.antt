@@ -23,41 +23,23 @@ use Rattle.memtable.specs.Fetching.{fetchOf}
 use Rattle.location_table.specs.Private.{rowsUsed}
 use Rattle.location_table.specs.Values.{answerOf, fetchedOf, rewriteValue, rowsValue, fetchValue}
 
--- the three ways to use rows
+-- the two ways to use rows
 module _ (len other : ℕ) where
-  too-many : 64 < len → inReach len other ≡ false
-  too-many l = rw (lt-leb len 64 l) refl
-
-  others-many : len ≤ 64 → 64 < other → inReach len other ≡ false
-  others-many l m = rw (le-leb len 64 l, lt-leb other 64 m) refl
-
-  reached : len ≤ 64 → other ≤ 64 → inReach len other ≡ true
-  reached l m = rw (le-leb len 64 l, le-leb other 64 m) refl
-
-  pub used-none : 64 < len → 0 ≡ rowsUsed len other
+  pub used-none : inReach len other ≡ false → 0 ≡ rowsUsed len other
   unfolding rowsUsed
-  used-none l = rw (too-many l) refl
+  used-none e = rw e refl
 
-  pub used-none-other : len ≤ 64 → 64 < other → 0 ≡ rowsUsed len other
+  pub used-all : inReach len other ≡ true → len ≡ rowsUsed len other
   unfolding rowsUsed
-  used-none-other l m = rw (others-many l m) refl
+  used-all e = rw e refl
 
-  pub used-all : len ≤ 64 → other ≤ 64 → len ≡ rowsUsed len other
-  unfolding rowsUsed
-  used-all l m = rw (reached l m) refl
-
-  module _ (t : Table) (r a : Rewritten) where
-    pub answer-many : 64 < len → a ≡ unchanged 21 (t .count) → a ≡ answerOf len other t r
-    unfolding answerOf
-    answer-many l e = rw (too-many l) e
-
-    pub answer-many-other : len ≤ 64 → 64 < other → a ≡ unchanged 21 (t .count) → a ≡ answerOf len other t r
-    unfolding answerOf
-    answer-many-other l m e = rw (others-many l m) e
-
-  pub answer-whole : (t : Table) (r : Rewritten) → len ≤ 64 → other ≤ 64 → r ≡ answerOf len other t r
+  pub answer-many : (t : Table) (r a : Rewritten) → inReach len other ≡ false → a ≡ unchanged 21 (t .count) → a ≡ answerOf len other t r
   unfolding answerOf
-  answer-whole t r l m = rw (reached l m) refl
+  answer-many t r a e f = rw e f
+
+  pub answer-whole : (t : Table) (r : Rewritten) → inReach len other ≡ true → r ≡ answerOf len other t r
+  unfolding answerOf
+  answer-whole t r e = rw e refl
 
 pub fetched-many : (len : ℕ) (r : Fetched) → 64 < len → noRun 21 ≡ fetchedOf len r
 unfolding fetchedOf

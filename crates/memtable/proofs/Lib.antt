@@ -4,9 +4,9 @@ pub mod Queues
 pub mod Runs
 pub mod RunLaws
 pub mod Surveys
+pub mod Outcomes
 pub mod Rewrites
 pub mod Pasting
-pub mod Outcomes
 pub mod Tables
 pub mod Fetches
 pub mod Determined

@@ -1,14 +1,15 @@
 -- The two outcomes of a rewrite: the table is kept, or the run is replaced. And the rows afterwards, around the run.
 -- Assumes nothing.
 use mathlib.Core.Path.{_≡_, refl}
-use Prim.Native.Nat.{ℕ, zero, suc, _+_, _-_, _≤_, min}
+use Prim.Native.Nat.{ℕ, _+_, _≤_}
+use native.Mathlib.Nat.{pos-of-ne-zero}
 use native.Mathlib.Omega.{arith}
 use mathlib.Core.Bool.{Bool, true, false, not, cond}
 use mathlib.Core.List.{List}
-use lib.Dec.{ltb, eqb, leb}
+use lib.Dec.{ltb, eqb}
 use lib.ListN.{length, drop, length-drop}
 use lib.Seq.{paste}
-use borrow.Author.Tests.{not-false, eqb-false, ltb-false, leb-true, leb-false}
+use borrow.Author.Tests.{not-false, eqb-false, ltb-false}
 use Rattle.pipe_log.specs.declared.Location.{Location}
 use Rattle.location_rules.specs.declared.Table.{Table}
 use Rattle.location_rules.specs.declared.Gate.{Gate}
@@ -37,18 +38,6 @@ module _ (good isReady : Bool) (t : Table) (place overlap run : ℕ) (gate : Gat
       choose (not good) _ _ (kept 26) (λ g. choose (not isReady) _ _ (kept 27) (λ r. choose (eqb overlap 0) _ _ (kept 0) (λ o. choose (ltb (t .count) place) _ _ (kept 24) (λ p. choose (early gate place (t .count)) _ _ (kept 25)
       (λ e. done (not-false good g) (not-false isReady r) (eqb-false overlap 0 o) (ltb-false (t .count) place p) e)))))
 
--- what is no longer than an overlap, and there is one, fits behind its start
-below : (n p b k : ℕ) → (min (n - p) b ≡ 0 → ⊥) → k ≤ min (n - p) b → p + k ≤ n
-below n p b zero h l = start n p b h
-  where
-    start : (n p b : ℕ) → (min (n - p) b ≡ 0 → ⊥) → p + 0 ≤ n
-    start n p b h = told (leb p n) refl
-      where
-        told : (x : Bool) → leb p n ≡ x → p + 0 ≤ n
-        told true e = omega (arith, leb-true p n e)
-        told false e = absurd (h (omega (arith, leb-false p n e)))
-below n p b (suc k) h l = omega (arith, l)
-
 module _ (rows : List Location) (t : Table) (incoming : List Location) (first : ℕ) (gate : Gate) where
   abbrev pub place : ℕ
   place = startPlace t first
@@ -76,7 +65,7 @@ module _ (rows : List Location) (t : Table) (incoming : List Location) (first : 
 
   -- the run lies in the rows and in the incoming ones
   pub run-in-rows : (overlap ≡ 0 → ⊥) → place + run ≤ length rows
-  run-in-rows some = below (length rows) place (length incoming - startFrom t first) run some (run-take-le (stopOf gate) overlap (drop place rows))
+  run-in-rows some = omega (arith, pos-of-ne-zero some, run-take-le (stopOf gate) overlap (drop place rows))
 
   pub run-in-source : run ≤ length source
   run-in-source = omega (arith, run-take-le (stopOf gate) overlap (drop place rows), length-drop (startFrom t first) incoming)

@@ -11,7 +11,7 @@ use Rattle.pipe_log.specs.declared.Location.{Location}
 use Rattle.location_rules.specs.Row.{inAppend, inRewrite}
 use Rattle.memtable.specs.Rows.{rowsIn}
 use Rattle.memtable.specs.Table.{all}
-use Rattle.memtable.proofs.Queues.{all-join, rowsIn-join, rowsIn-all, none-rewrite, none-append}
+use Rattle.memtable.proofs.Queues.{all-join, rowsIn-join, rowsIn-all, not-append, not-rewrite, none-in}
 
 -- k rows of xs, from p on, replaced by the first k of src
 module _ (xs : List Location) (p : ℕ) (src : List Location) (k : ℕ) (in-rows : p + k ≤ length xs) (in-source : k ≤ length src) where
@@ -62,7 +62,7 @@ module _ (xs : List Location) (p : ℕ) (src : List Location) (k : ℕ) (in-rows
     new-long = length-take-le k src in-source
 
     pub append-falls : rowsIn inAppend xs ≡ rowsIn inAppend (paste xs p src k) + k
-    append-falls = omega (arith, rows-before inAppend, rows-after inAppend, rowsIn-all inAppend (take k (drop p xs)) old, old-long, none-append (take k src) new)
+    append-falls = omega (arith, rows-before inAppend, rows-after inAppend, rowsIn-all inAppend (take k (drop p xs)) old, old-long, none-in inRewrite inAppend (λ r. not-rewrite (r .queue)) (take k src) new)
 
     pub rewrite-rises : rowsIn inRewrite (paste xs p src k) ≡ rowsIn inRewrite xs + k
-    rewrite-rises = omega (arith, rows-before inRewrite, rows-after inRewrite, rowsIn-all inRewrite (take k src) new, new-long, none-rewrite (take k (drop p xs)) old)
+    rewrite-rises = omega (arith, rows-before inRewrite, rows-after inRewrite, rowsIn-all inRewrite (take k src) new, new-long, none-in inAppend inRewrite (λ r. not-append (r .queue)) (take k (drop p xs)) old)

@@ -4,12 +4,12 @@ use mathlib.Core.Path.{_≡_, refl, sym, ap, _∙_}
 use Prim.Native.Nat.{ℕ, suc, _+_}
 use native.Mathlib.Nat.{zero-add}
 use native.Mathlib.Omega.{arith}
-use mathlib.Core.Bool.{Bool, true, false, cond, and-eq-true-iff}
+use mathlib.Core.Bool.{Bool, true, false, not, cond, and-eq-true-iff}
 use mathlib.Core.List.{List, [], _∷_, _++_}
 use lib.ListN.{length, take, drop, take-append-drop}
 use Rattle.pipe_log.specs.declared.Location.{Location}
 use Rattle.pipe_log.specs.declared.LogQueue.{LogQueue}
-use Rattle.location_rules.specs.Row.{isAppend, isRewrite, inAppend, inRewrite}
+use Rattle.location_rules.specs.Row.{isAppend, isRewrite}
 use Rattle.memtable.specs.Rows.{rowsIn}
 use Rattle.memtable.specs.Table.{all}
 
@@ -46,18 +46,15 @@ module _ (test : Location → Bool) where
   rowsIn-all (r ∷ rs) e = let z : (test r ≡ true) × (all test rs ≡ true) = and-eq-true-iff (test r) (all test rs) .0 e in (rw (z .0) (ap suc (rowsIn-all rs (z .1))))
 
 -- a row is in one queue alone
-not-rewrite : (q : LogQueue) → isAppend q ≡ true → isRewrite q ≡ false
-not-rewrite LogQueue.Append e = refl
-not-rewrite LogQueue.Rewrite e = sym e
+pub not-append : (q : LogQueue) → not (isAppend q) ≡ isRewrite q
+not-append LogQueue.Append = refl
+not-append LogQueue.Rewrite = refl
 
-not-append : (q : LogQueue) → isRewrite q ≡ true → isAppend q ≡ false
-not-append LogQueue.Append e = sym e
-not-append LogQueue.Rewrite e = refl
+pub not-rewrite : (q : LogQueue) → not (isRewrite q) ≡ isAppend q
+not-rewrite LogQueue.Append = refl
+not-rewrite LogQueue.Rewrite = refl
 
-pub none-rewrite : (rows : List Location) → all inAppend rows ≡ true → rowsIn inRewrite rows ≡ 0
-none-rewrite [] e = refl
-none-rewrite (r ∷ rs) e = let z : (inAppend r ≡ true) × (all inAppend rs ≡ true) = and-eq-true-iff (inAppend r) (all inAppend rs) .0 e in (rw (not-rewrite (r .queue) (z .0)) (none-rewrite rs (z .1)))
-
-pub none-append : (rows : List Location) → all inRewrite rows ≡ true → rowsIn inAppend rows ≡ 0
-none-append [] e = refl
-none-append (r ∷ rs) e = let z : (inRewrite r ≡ true) × (all inRewrite rs ≡ true) = and-eq-true-iff (inRewrite r) (all inRewrite rs) .0 e in (rw (not-append (r .queue) (z .0)) (none-append rs (z .1)))
+-- where all rows pass a test, none passes the opposite one
+pub none-in : (test other : Location → Bool) → ((r : Location) → not (test r) ≡ other r) → (rows : List Location) → all test rows ≡ true → rowsIn other rows ≡ 0
+none-in test other f [] e = refl
+none-in test other f (r ∷ rs) e = let z : (test r ≡ true) × (all test rs ≡ true) = and-eq-true-iff (test r) (all test rs) .0 e in (rw (← f r, z .0) (none-in test other f rs (z .1)))

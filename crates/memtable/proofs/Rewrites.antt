@@ -4,9 +4,9 @@ use mathlib.Core.Path.{_≡_, refl, sym, ap, _∙_}
 use Prim.Native.Nat.{ℕ, _+_, _-_, _≤_}
 use native.Mathlib.Nat.{le-refl, add-sub-cancel-left}
 use native.Mathlib.Omega.{arith}
-use mathlib.Core.Bool.{Bool, true, false, not, cond}
+use mathlib.Core.Bool.{Bool, true, false}
 use mathlib.Core.List.{List}
-use lib.Dec.{ltb, eqb}
+use lib.Dec.{eqb}
 use lib.ListN.{length, take, drop}
 use lib.Seq.{paste, paste-zero}
 use borrow.Author.Tests.{eq-eqb, ne-eqb, eqb-true, eqb-false}
@@ -18,25 +18,21 @@ use Rattle.location_rules.specs.declared.Overlap.{Overlap}
 use Rattle.location_rules.specs.declared.Rewritten.{Rewritten}
 use Rattle.memtable.specs.Rows.{runOf}
 use Rattle.memtable.specs.Table.{wellFormed, ready}
-use Rattle.location_rules.specs.Decisions.{stopOf, early, answered}
+use Rattle.location_rules.specs.Decisions.{stopOf, answered}
 use Rattle.memtable.specs.Rewriting.{startPlace, startFrom, overlapLength, runLength, rewriteOf, rowsAfter}
 use Rattle.location_rules.specs.Parts.{readyBy, overlapAt, overlapOf}
-use Rattle.location_rules.proofs.Overlaps.{over-le, over-rows, over-incoming}
+use Rattle.location_rules.proofs.Overlaps.{over-rows, over-incoming}
 use Rattle.memtable.proofs.RunLaws.{run-take-le}
 use Rattle.memtable.proofs.Surveys.{ready-by}
+use Rattle.memtable.proofs.Outcomes.{Outcome, kept, done, outcome-of}
 
 -- no more rows are replaced than the run has
-either : (b : Bool) (x y : Rewritten) (k : ℕ) → x .replaced ≤ k → y .replaced ≤ k → cond b x y .replaced ≤ k
-either true x y k l m = l
-either false x y k l m = m
-
-pub replaced-le : (good isReady : Bool) (t : Table) (place overlap run : ℕ) (gate : Gate) → answered good isReady t place overlap run gate .replaced ≤ run
-unfolding answered
-replaced-le good isReady t place overlap run gate =
-    either (not good) _ _ run none (either (not isReady) _ _ run none (either (eqb overlap 0) _ _ run none (either (ltb (t .count) place) _ _ run none (either (early gate place (t .count)) _ _ run none (le-refl run)))))
+replaced-le : (good isReady : Bool) (t : Table) (place overlap run : ℕ) (gate : Gate) → answered good isReady t place overlap run gate .replaced ≤ run
+replaced-le good isReady t place overlap run gate = told _ (outcome-of good isReady t place overlap run gate)
   where
-    none : 0 ≤ run
-    none = omega arith
+    told : (r : Rewritten) → Outcome good isReady t place overlap run gate r → r .replaced ≤ run
+    told _ (kept number) = omega arith
+    told _ (done g h o l e) = le-refl run
 
 -- where nothing overlaps, the place and the run count for nothing
 none-answered : (c z : Bool) (t : Table) (a b k l o o′ : ℕ) (gate : Gate) → o ≡ 0 → o′ ≡ 0 → answered c z t a o k gate ≡ answered c z t b o′ l gate
@@ -46,17 +42,11 @@ none-answered c z t a b k l o o′ gate e f = rw (eq-eqb o 0 e, eq-eqb o′ 0 f)
 none-replaced : (c z : Bool) (t : Table) (a k o : ℕ) (gate : Gate) → o ≡ 0 → answered c z t a o k gate .replaced ≡ 0
 none-replaced c z t a k o gate e = omega (arith, ap (λ (w : Rewritten). w .replaced) (none-answered c z t a a k 0 o 0 gate e refl), replaced-le c z t a 0 0 gate)
 
-same-answered : (c c′ z z′ : Bool) (t : Table) (a b k l o o′ : ℕ) (gate : Gate) → c ≡ c′ → z ≡ z′ → a ≡ b → o ≡ o′ → k ≡ l → answered c z t a o k gate ≡ answered c′ z′ t b o′ l gate
-same-answered c c′ z z′ t a b k l o o′ gate e f g h i = cc
-
-same-paste : (xs ys : List Location) (a a′ b b′ k k′ : ℕ) → a ≡ a′ → b ≡ b′ → k ≡ k′ → paste xs a (drop b ys) k ≡ paste xs a′ (drop b′ ys) k′
-same-paste xs ys a a′ b b′ k k′ e f g = cc
-
 module _ (xs : List Location) (t : Table) (ys : List Location) (first : ℕ) where
   pub run-fits : (c z : Bool) (p : Overlap) (s : Stop) (e : ℕ) (d : Rewritten) (gate : Gate) → p ≡ overlapOf (first - t .first) (t .first - first) (length xs) (length ys)
       → e ≡ p .start + runOf s (take (p .end - p .start) (drop (p .start) xs)) → d ≡ answered c z t (p .start) (p .end - p .start) (e - p .start) gate
       → (p .start + d .replaced ≤ length xs) × (p .from + d .replaced ≤ length ys)
-  run-fits c z p s e d gate e₃ e₅ e₆ = (omega (arith, small, over-le _ _ (length xs) (length ys) p e₃, over-rows _ _ (length xs) (length ys) p e₃), omega (arith, small, over-incoming _ _ (length xs) (length ys) p e₃))
+  run-fits c z p s e d gate e₃ e₅ e₆ = (omega (arith, small, over-rows _ _ (length xs) (length ys) p e₃ .0, over-rows _ _ (length xs) (length ys) p e₃ .1), omega (arith, small, over-incoming _ _ (length xs) (length ys) p e₃))
     where
       small : d .replaced ≤ p .end - p .start
       small = omega (arith, ap (λ (w : Rewritten). w .replaced) e₆, replaced-le c z t (p .start) (p .end - p .start) (e - p .start) gate, e₅, run-take-le s (p .end - p .start) (drop (p .start) xs))
@@ -92,13 +82,13 @@ module _ (xs : List Location) (t : Table) (ys : List Location) (first : ℕ) whe
       no-rows = ap (λ (w : Overlap). w .end - w .start) (over ∙ nowhere)
 
       d-none : d ≡ answered (wellFormed xs t) (ready ys first) t place len runs gate
-      d-none = e₆ ∙ none-answered c z t (p .start) place (e - p .start) runs (p .end - p .start) len gate no-rows none ∙ same-answered c (wellFormed xs t) z (ready ys first) t place place runs runs len len gate e₀ is-ready refl refl refl
+      d-none = e₆ ∙ none-answered c z t (p .start) place (e - p .start) runs (p .end - p .start) len gate no-rows none ∙ (rw (e₀, is-ready) refl)
 
       k-none : d .replaced ≡ 0
       k-none = ap (λ (w : Rewritten). w .replaced) d-none ∙ none-replaced (wellFormed xs t) (ready ys first) t place runs len gate none
 
       rows-none : zs ≡ paste xs place (drop from ys) (d .replaced)
-      rows-none = e₇ ∙ same-paste xs ys (p .start) (p .start) (p .from) (p .from) (d .replaced) 0 refl refl k-none ∙ sym (paste-zero xs (p .start) (drop (p .from) ys)) ∙ paste-zero xs place (drop from ys) ∙ same-paste xs ys place place from from 0 (d .replaced) refl refl (sym k-none)
+      rows-none = e₇ ∙ (rw k-none (sym (paste-zero xs (p .start) (drop (p .from) ys)) ∙ paste-zero xs place (drop from ys)))
 
     -- something does
     module _ (some : len ≡ 0 → ⊥) where
@@ -121,10 +111,10 @@ module _ (xs : List Location) (t : Table) (ys : List Location) (first : ℕ) whe
           same-run = rw (e₄, so-long, at-start) refl
 
       d-some : d ≡ answered (wellFormed xs t) (ready ys first) t place len runs gate
-      d-some = e₆ ∙ same-answered c (wellFormed xs t) z (ready ys first) t (p .start) place (e - p .start) runs (p .end - p .start) len gate e₀ is-ready at-start so-long ran
+      d-some = e₆ ∙ (rw (ran, so-long, at-start, e₀, is-ready) refl)
 
       rows-some : zs ≡ paste xs place (drop from ys) (d .replaced)
-      rows-some = e₇ ∙ same-paste xs ys (p .start) place (p .from) from (d .replaced) (d .replaced) at-start at-from refl
+      rows-some = e₇ ∙ (rw (at-start, at-from) refl)
 
     pub rewritten-by : (d ≡ rewriteOf xs t ys first gate) × (zs ≡ rowsAfter xs t ys first gate)
     unfolding rewriteOf rowsAfter

@@ -4,7 +4,7 @@ use mathlib.Core.Path.{_≡_, refl, sym, ap, _∙_}
 use Prim.Native.Nat.{ℕ, suc, _+_, _-_, _<_, _≤_, min}
 use native.Mathlib.Nat.{zero-add}
 use native.Mathlib.Omega.{arith}
-use mathlib.Core.Bool.{Bool, true, false, cond, _&&_, and-eq-true-iff}
+use mathlib.Core.Bool.{Bool, true, false, not, cond, _&&_, and-eq-true-iff}
 use mathlib.Core.List.{List, [], _∷_}
 use lib.Dec.{leb, leb·suc-suc, leb·suc-zero}
 use lib.ListN.{length, take, drop, length-drop}
@@ -12,39 +12,38 @@ use lib.Seq.{take-all, length-take-le}
 use borrow.Author.Tests.{lt-leb, leb-true, leb-false}
 use Rattle.words.proofs.Tests.{same-test}
 use Rattle.pipe_log.specs.declared.Location.{Location}
-use Rattle.pipe_log.specs.declared.LogQueue.{LogQueue}
 use Rattle.location_rules.specs.declared.Table.{Table}
 use Rattle.location_rules.specs.declared.Stop.{Stop}
-use Rattle.location_rules.specs.Row.{isAppend, isRewrite, inAppend, inRewrite}
+use Rattle.location_rules.specs.Row.{inAppend, inRewrite, stopsAt}
 use Rattle.memtable.specs.Rows.{runOf}
 use Rattle.memtable.specs.Table.{all, wellFormed, ready}
 use Rattle.location_rules.specs.declared.Fetched.{Fetched}
 use Rattle.location_rules.specs.Decisions.{fetched}
 use Rattle.memtable.specs.Fetching.{fetchOf}
 use Rattle.location_rules.specs.Parts.{wellFormedBy, readyBy}
+use Rattle.memtable.proofs.Queues.{not-append, not-rewrite}
 
 -- the count of a well-formed table is within its rows
 pub formed-count : (ys : List Location) (t : Table) → wellFormed ys t ≡ true → t .count ≤ length ys
 unfolding wellFormed
 formed-count ys t e = leb-true (t .count) (length ys) (and-eq-true-iff (leb (t .count) (length ys)) _ .0 e .0)
 
--- a row more: the run reaches the end exactly where this row and the others are in the other queue
-more-rewrite : (q : LogQueue) (n k : ℕ) (b : Bool) → leb n k ≡ b → leb (suc n) (cond (isAppend q) 0 (suc k)) ≡ (isRewrite q && b)
-more-rewrite LogQueue.Append n k b e = leb·suc-zero n
-more-rewrite LogQueue.Rewrite n k b e = leb·suc-suc n k ∙ e
+-- a row more: the run reaches the end exactly where neither this row nor one of the others stops it
+one-more : (b : Bool) (n k : ℕ) (c : Bool) → leb n k ≡ c → leb (suc n) (cond b 0 (suc k)) ≡ (not b && c)
+one-more true n k c e = leb·suc-zero n
+one-more false n k c e = leb·suc-suc n k ∙ e
 
-more-append : (q : LogQueue) (n k : ℕ) (b : Bool) → leb n k ≡ b → leb (suc n) (cond (isRewrite q) 0 (suc k)) ≡ (isAppend q && b)
-more-append LogQueue.Append n k b e = leb·suc-suc n k ∙ e
-more-append LogQueue.Rewrite n k b e = leb·suc-zero n
+-- the scan for a row of one queue finds none exactly where all are in the other
+all-other : (s : Stop) (test : Location → Bool) → ((r : Location) → not (stopsAt s r) ≡ test r) → (rows : List Location) → leb (length rows) (runOf s rows) ≡ all test rows
+all-other s test f [] = refl
+all-other s test f (r ∷ rs) = one-more (stopsAt s r) (length rs) (runOf s rs) (all test rs) (all-other s test f rs) ∙ ap (λ (b : Bool). b && all test rs) (f r)
 
--- the scan for a row of the append queue finds none exactly where all are in the rewrite queue
-pub all-rewrite : (rows : List Location) → leb (length rows) (runOf Stop.Append rows) ≡ all inRewrite rows
-all-rewrite [] = refl
-all-rewrite (r ∷ rs) = more-rewrite (r .queue) (length rs) (runOf Stop.Append rs) (all inRewrite rs) (all-rewrite rs)
+all-rewrite : (rows : List Location) → leb (length rows) (runOf Stop.Append rows) ≡ all inRewrite rows
+all-rewrite = all-other Stop.Append inRewrite (λ r. not-append (r .queue))
 
-pub all-append : (rows : List Location) → leb (length rows) (runOf Stop.Rewrite rows) ≡ all inAppend rows
-all-append [] = refl
-all-append (r ∷ rs) = more-append (r .queue) (length rs) (runOf Stop.Rewrite rs) (all inAppend rs) (all-append rs)
+-- the rows from c on, all of them
+from-on : (c : ℕ) (rows : List Location) → take (length rows - c) (drop c rows) ≡ drop c rows
+from-on c rows = take-all (length rows - c) (drop c rows) (omega (arith, length-drop c rows))
 
 -- the same number on both sides of a test
 added : (c n k : ℕ) → c ≤ n → leb n (c + k) ≡ leb (n - c) k
@@ -61,7 +60,7 @@ module _ (ys : List Location) (t : Table) where
 
       back : leb (length ys) b ≡ all inAppend (drop (t .count) ys)
       back = ap (leb (length ys)) e₂ ∙ added (t .count) (length ys) (runOf Stop.Rewrite (drop (t .count) ys)) l
-          ∙ ap (λ (k : ℕ). leb k (runOf Stop.Rewrite (drop (t .count) ys))) (sym (length-drop (t .count) ys)) ∙ all-append (drop (t .count) ys)
+          ∙ ap (λ (k : ℕ). leb k (runOf Stop.Rewrite (drop (t .count) ys))) (sym (length-drop (t .count) ys)) ∙ all-other Stop.Rewrite inAppend (λ r. not-rewrite (r .queue)) (drop (t .count) ys)
 
   outside : (f b : ℕ) → length ys < t .count → wellFormedBy t (length ys) f b ≡ wellFormed ys t
   unfolding wellFormedBy wellFormed
@@ -83,11 +82,8 @@ module _ (ys : List Location) (t : Table) where
           front : 0 + runOf Stop.Append (take (c - 0) (drop 0 ys)) ≡ runOf Stop.Append (take (t .count) ys)
           front = zero-add _ ∙ ap (λ (k : ℕ). runOf Stop.Append (take k ys)) sized
 
-          rest : take (length ys - c) (drop c ys) ≡ drop c ys
-          rest = take-all (length ys - c) (drop c ys) (omega (arith, length-drop c ys))
-
           back : c + runOf Stop.Rewrite (take (length ys - c) (drop c ys)) ≡ t .count + runOf Stop.Rewrite (drop (t .count) ys)
-          back = ap (λ (l : List Location). c + runOf Stop.Rewrite l) rest ∙ ap (λ (k : ℕ). k + runOf Stop.Rewrite (drop k ys)) same
+          back = ap (λ (l : List Location). c + runOf Stop.Rewrite l) (from-on c ys) ∙ ap (λ (k : ℕ). k + runOf Stop.Rewrite (drop k ys)) same
 
       told : (x : Bool) → leb (t .count) (length ys) ≡ x → wellFormedBy t (length ys) f b ≡ wellFormed ys t
       told true z = within (leb-true (t .count) (length ys) z)
@@ -107,11 +103,8 @@ pub fetched-by : (ys : List Location) (t : Table) (gate : ℕ) (x : Bool) (c e :
 unfolding fetched fetchOf
 fetched-by ys t gate x c e r e₀ e₁ e₂ e₃ = e₃ ∙ told (wellFormed ys t) refl
   where
-    rest : take (length ys - c) (drop c ys) ≡ drop c ys
-    rest = take-all (length ys - c) (drop c ys) (omega (arith, length-drop c ys))
-
     run : e - c ≡ runOf (Stop.Above gate) (drop c ys)
-    run = omega (arith, e₂) ∙ ap (runOf (Stop.Above gate)) rest
+    run = omega (arith, e₂) ∙ ap (runOf (Stop.Above gate)) (from-on c ys)
 
     at-count : wellFormed ys t ≡ true → c ≡ t .count
     at-count z = omega (arith, e₁, formed-count ys t z)

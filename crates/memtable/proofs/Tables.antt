@@ -1,7 +1,7 @@
--- A well-formed table: its parts, and the numbers of its count.
+-- A well-formed table and incoming rows that are taken: their parts.
 -- Assumes nothing.
 use mathlib.Core.Path.{_≡_, sym, ap, _∙_}
-use Prim.Native.Nat.{ℕ, _+_, _-_, _≤_, max}
+use Prim.Native.Nat.{ℕ, _+_, _-_, _≤_}
 use native.Mathlib.Nat.{add-sub-of-le}
 use native.Mathlib.Omega.{arith}
 use mathlib.Core.Bool.{true, _&&_, and-eq-true-iff}
@@ -53,22 +53,6 @@ run-short rows c p o k l b e = omega (arith, e, run-part Stop.Append o (drop p r
 -- the rewritten rows behind the first q
 pub rest-rewrite : (rows : List Location) (c q : ℕ) → q ≤ c → all inRewrite (take c rows) ≡ true → all inRewrite (take (c - q) (drop q rows)) ≡ true
 rest-rewrite rows c q l a = all-right inRewrite (take q rows) (take (c - q) (drop q rows)) (ap (all inRewrite) (sym (take-add q (c - q) rows) ∙ ap (λ (n : ℕ). take n rows) (add-sub-of-le l)) ∙ a)
-
--- the numbers of a count that stays, and of one that rises
-pub reaches : (q c : ℕ) → c ≤ q + (c - q)
-reaches q c = omega arith
-
-pub no-farther : (q c n : ℕ) → q ≤ c → c ≤ n → q + (c - q) ≤ n
-no-farther q c n l m = omega arith
-
-pub larger : (q c : ℕ) → q ≤ c → max q c ≡ q + (c - q)
-larger q c l = omega arith
-
-pub later : (c p k : ℕ) → c ≤ p → c ≤ p + k + 0
-later c p k l = omega arith
-
-pub none-more : (q n : ℕ) → q ≤ n → q + 0 ≤ n
-none-more q n l = omega arith
 
 pub ready-of : (incoming : List Location) (first : ℕ) → all inRewrite incoming ≡ true → first + length incoming ≤ 18446744073709551616 → ready incoming first ≡ true
 unfolding ready

@@ -2,7 +2,7 @@
 -- Assumes nothing.
 use mathlib.Core.Path.{_≡_, refl, sym, ap, _∙_}
 use Prim.Native.Nat.{ℕ, _+_, _-_, _<_, _≤_, _^_}
-use native.Mathlib.Nat.{add-zero}
+use native.Mathlib.Nat.{add-zero, le-refl, add-sub-of-le, max-eq-right}
 use native.Mathlib.Omega.{arith}
 use mathlib.Core.Bool.{true}
 use mathlib.Core.List.{List, [], _∷_}
@@ -31,7 +31,7 @@ use Rattle.memtable.proofs.rewrite as rw-fn
 use Rattle.memtable.proofs.Queues.{all-take, all-drop}
 use Rattle.memtable.proofs.RunLaws.{run-over}
 use Rattle.memtable.proofs.Surveys.{formed-count}
-use Rattle.memtable.proofs.Tables.{formed-parts, formed-of, ready-all, ready-fits, ready-of, run-short, rest-rewrite, reaches, no-farther, larger, later, none-more}
+use Rattle.memtable.proofs.Tables.{formed-parts, formed-of, ready-all, ready-fits, ready-of, run-short, rest-rewrite}
 use Rattle.memtable.proofs.Fetches.{fetched-is, fetched-formed, whole-run}
 use Rattle.memtable.proofs.Pasting.{before-same, behind-same, length-same, rewrite-front, append-back, append-falls, rewrite-rises}
 use Rattle.memtable.proofs.Outcomes.{kept, done, place, source, overlap, run, Outcomes, outcome, after-is, run-in-rows, run-in-source}
@@ -135,11 +135,14 @@ module _ (rows : List Location) (t : Table) (incoming : List Location) (first : 
           new = all-drop inRewrite (startFrom t first) incoming (ready-all incoming first h)
 
           by-gate : (x : Gate) → gate ≡ x → wellFormed (paste rows p src k) (record { first = t .first; count = countAfter gate (p + k) (t .count) }) ≡ true
-          by-gate Gate.None z = moved k (t .count - (p + k)) (countAfter gate (p + k) (t .count)) in-rows in-source new l (reaches (p + k) (t .count)) (no-farther (p + k) (t .count) (length rows) short (formed-count rows t f)) (ap (λ (x : Gate). countAfter x (p + k) (t .count)) z ∙ larger (p + k) (t .count) short) (rest-rewrite rows (t .count) (p + k) short (parts .0))
+          by-gate Gate.None z = moved k (t .count - (p + k)) (countAfter gate (p + k) (t .count)) in-rows in-source new l (rw whole (le-refl (t .count))) (rw whole (formed-count rows t f)) (ap (λ (x : Gate). countAfter x (p + k) (t .count)) z ∙ max-eq-right short ∙ sym whole) (rest-rewrite rows (t .count) (p + k) short (parts .0))
             where
               short : p + k ≤ t .count
               short = run-short rows (t .count) p (overlap rows t incoming first gate) k l (parts .1 .0) (ap (λ (x : Gate). runOf (stopOf x) (take (overlap rows t incoming first gate) (drop p rows))) z)
-          by-gate (Gate.Given n) z = moved k 0 (countAfter gate (p + k) (t .count)) in-rows in-source new l (later (t .count) p k late) (none-more (p + k) (length rows) in-rows) (ap (λ (x : Gate). countAfter x (p + k) (t .count)) z ∙ sym (add-zero (p + k))) refl
+
+              whole : p + k + (t .count - (p + k)) ≡ t .count
+              whole = add-sub-of-le short
+          by-gate (Gate.Given n) z = moved k 0 (countAfter gate (p + k) (t .count)) in-rows in-source new l (omega (arith, late)) (omega (arith, in-rows)) (ap (λ (x : Gate). countAfter x (p + k) (t .count)) z ∙ sym (add-zero (p + k))) refl
             where
               late : t .count ≤ p
               late = ltb-false p (t .count) (ap (λ (x : Gate). early x p (t .count)) (sym z) ∙ e)

@@ -1,6 +1,7 @@
 -- `location_rows::rewrite` meets its contract: the surveys, the overlap, the run, the decision and the copy come to the definition.
 -- Assumes nothing.
-use Rattle.location_rows.proofs.Rewrites.{scan-room, replace-room, rewritten}
+use Rattle.location_rules.proofs.Overlaps.{over-rows}
+use Rattle.location_rows.proofs.Rewrites.{replace-room, rewritten}
 use native.Mathlib.Omega.{arith}
 use borrow.Author.Needs.{needs}
 use Rattle.location_rows.proofs.rewrite.Statement.{statement}
@@ -19,7 +20,7 @@ stop-of-requires : tie.Need-stop-of-requires
 stop-of-requires c κs = search needs
 
 scan-requires : tie.Need-scan-requires
-scan-requires c κs = scan-room _ _ _ _ (c .before .before .overlap-of .ensures)
+scan-requires c κs = over-rows _ _ _ _ _ (c .before .before .overlap-of .ensures)
 
 decide-requires : tie.Need-decide-requires
 decide-requires c κs = search needs

@@ -62,7 +62,7 @@ use Rattle.memtable.specs.Table.{wellFormed}
 use Rattle.location_rules.specs.Decisions.{stopOf, answered}
 use Rattle.memtable.specs.Rewriting.{rewriteOf, rowsAfter}
 use Rattle.location_rules.specs.Parts.{readyBy, overlapOf}
-use Rattle.location_rules.proofs.Overlaps.{over-le, over-rows}
+use Rattle.location_rules.proofs.Overlaps.{over-rows}
 use Rattle.memtable.proofs.Rewrites.{run-fits, rewritten-by}
 use Rattle.by_hand.proofs.Locals.{tyAt}
 use Rattle.memtable.proofs.Machine.{R, valT, valO, valD, valS, is-append}
@@ -263,7 +263,7 @@ module _ {M : Type 1} (𝓤 : URA M) (H : Heap 𝓤) (A : Atoms 𝓤) (W : Given
 
       ask-scan : ent 𝓤 (⋆ 𝓤 H A (‵ (flft κ₁ fullShare) ∷ ‵ (ShrX κ₁ γ₁) ∷ [])) (Scan 𝓤 H A mem run .pre to-scan)
       ask-scan =
-          qed W (‵ (flft κ₁ fullShare) ∷ ‵ (ShrX κ₁ γ₁) ∷ []) ∵ says ! (over-le _ _ n m p e₃, over-rows _ _ n m p e₃) $ nothing ! $ move ! (1 ∷ 0 ∷ []) $ join ! $ frame ! $
+          qed W (‵ (flft κ₁ fullShare) ∷ ‵ (ShrX κ₁ γ₁) ∷ []) ∵ says ! (over-rows _ _ n m p e₃) $ nothing ! $ move ! (1 ∷ 0 ∷ []) $ join ! $ frame ! $
           nothing ! $ owned ! S.the-row (Is S.the-row) (EL.makes S.the-type S′.the-plain 𝓤 H A) s _ is-s $ fjoin ! $ owned ! usize (Is usize) (uint-makes 𝓤 H A W w64) (p .end) _ (refl, g-end) $ fjoin ! $ owned ! usize (Is usize) (uint-makes 𝓤 H A W w64) (p .start) _ (refl, g-start) $ fjoin ! $ move ! (1 ∷ 0 ∷ []) $ fjoin ! $ done !
 
       said-scan : (e : ℕ) → ent 𝓤 (ensured 𝓤 H A sc.ended (sc.clauses 𝓤 H A mem run) (κ₁, tt) arg-scan tt e) (fact 𝓤 (e ≡ p .start + runOf s (take (p .end - p .start) (dropL (p .start) xs))))
