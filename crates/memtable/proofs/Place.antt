@@ -11,8 +11,5 @@ reach n i room l = omega arith
 pub within : (a k n i : ℕ) → a + k ≤ n → i < k → a + i < n
 within a k n i le l = omega arith
 
-pub below : (a n : ℕ) → a < n → n < 2 ^ 64 → a < 2 ^ 64
-below a n l g = omega arith
-
 pub cut-le : (a n c : ℕ) → c ≡ min a n → c ≤ n
 cut-le a n c e = omega (arith, e)

@@ -33,13 +33,13 @@ module _ (test : Location → Bool) where
   all-drop k rows e = all-right (take k rows) (drop k rows) (ap (all test) (take-append-drop k rows) ∙ e)
 
   -- how many they are
-  counted : (b : Bool) (x y : ℕ) → cond b (suc (x + y)) (x + y) ≡ cond b (suc x) x + y
-  counted true x y = omega arith
-  counted false x y = refl
+  cond-add : (b : Bool) (x y : ℕ) → cond b (suc (x + y)) (x + y) ≡ cond b (suc x) x + y
+  cond-add true x y = omega arith
+  cond-add false x y = refl
 
   pub rowsIn-join : (a b : List Location) → rowsIn test (a ++ b) ≡ rowsIn test a + rowsIn test b
   rowsIn-join [] b = sym (zero-add (rowsIn test b))
-  rowsIn-join (r ∷ a) b = ap (λ (k : ℕ). cond (test r) (suc k) k) (rowsIn-join a b) ∙ counted (test r) (rowsIn test a) (rowsIn test b)
+  rowsIn-join (r ∷ a) b = ap (λ (k : ℕ). cond (test r) (suc k) k) (rowsIn-join a b) ∙ cond-add (test r) (rowsIn test a) (rowsIn test b)
 
   pub rowsIn-all : (rows : List Location) → all test rows ≡ true → rowsIn test rows ≡ length rows
   rowsIn-all [] e = refl

@@ -5,7 +5,7 @@
 -- Assumes nothing.
 use mathlib.Core.Path.{_≡_, refl, sym, _∙_, ap, subst}
 use Prim.Native.Nat.{ℕ, suc, _+_, _*_, _<_, _≤_, _^_}
-use native.Mathlib.Nat.{zero-add, le-of-lt, le-refl}
+use native.Mathlib.Nat.{zero-add, le-of-lt, lt-trans, le-refl}
 use native.Mathlib.Numerals.{add-one}
 use native.Mathlib.Omega.{arith}
 use mathlib.Core.Bool.{Bool}
@@ -52,9 +52,9 @@ use denote.Exit.{yes}
 use Rattle.pipe_log.specs.declared.Location.{Location}
 use Rattle.memtable.proofs.Runs.{noRow}
 use Rattle.memtable.proofs.Machine.{R}
-use Rattle.memtable.proofs.Place.{reach, within, below}
+use Rattle.memtable.proofs.Place.{reach, within}
 use borrow.Author.Tests.{lt-ltb, le-ltb}
-use Rattle.by_hand.proofs.Loop.{step-fits, counted}
+use Rattle.by_hand.proofs.Loop.{step-fits, counted-loop}
 use Rattle.pipe_log.proofs.Location as T
 use Rattle.pipe_log.proofs.Location.Laws as T′
 use Rattle.memtable.proofs.replace.Key.{name as #f}
@@ -187,13 +187,13 @@ module _ {M : Type 1} (𝓤 : URA M) (H : Heap 𝓤) (A : Atoms 𝓤) (W : Given
         inx = subst (λ (m : ℕ). start + i < m) (sym (P-length i (le-of-lt small))) (within start k (length xs) i fx small)
 
         ify : first + i < 2 ^ 64
-        ify = below _ _ iny (gy .0)
+        ify = lt-trans iny (gy .0)
 
         ity : (first + i) * 40 < 2 ^ 64
         ity = reach _ _ (gy .1) iny
 
         ifx : start + i < 2 ^ 64
-        ifx = below _ _ (within start k (length xs) i fx small) (gx .0)
+        ifx = lt-trans (within start k (length xs) i fx small) (gx .0)
 
         itx : (start + i) * 40 < 2 ^ 64
         itx = reach _ _ (gx .1) (within start k (length xs) i fx small)
@@ -231,7 +231,7 @@ module _ {M : Type 1} (𝓤 : URA M) (H : Heap 𝓤) (A : Atoms 𝓤) (W : Given
       move ! (7 ∷ []) $ fsplit ! $ drop ! $ fsplit ! $ move ! (0 ∷ 1 ∷ 6 ∷ []) $ opens-slice ! tt R xs b o $
       rewrite ! 0 (λ (l : List Location). ‵ (row R fullShare l b o)) (paste-zero xs start (dropL first ys)) refl $
       -- [rows; the open borrow; obs; auth; incoming; what shuts it; the fractured borrow; true; incoming's; the numbers'; _14; dies; _13; …]
-      keep ! (0 ∷ 4 ∷ 26 ∷ 24 ∷ 22 ∷ 20 ∷ 18 ∷ 16 ∷ 14 ∷ 12 ∷ 10 ∷ 36 ∷ 34 ∷ 32 ∷ 30 ∷ 28 ∷ 38 ∷ 1 ∷ 2 ∷ 3 ∷ 5 ∷ 8 ∷ 39 ∷ 37 ∷ 35 ∷ 33 ∷ 31 ∷ 29 ∷ 27 ∷ 25 ∷ 23 ∷ 21 ∷ 19 ∷ 17 ∷ 15 ∷ 13 ∷ 11 ∷ []) $ by ! (counted 𝓤 H A W 𝓣 (En 𝓣 q′ l₀ l₁ l₂ l₃ l₄ l₅ l₆ l₇ l₈ l₉ l₁₀ l₁₁ l₁₂ l₁₃ l₁₄) body.turn-1 (Left 𝓣 q′ l₀ l₁ l₂ l₃ l₄ l₅ l₆ l₇ l₈ l₉ l₁₀ l₁₁ l₁₂ l₁₃ l₁₄) k (λ _. Unit {0}) (Γ 𝓣 q′ l₀ l₁ l₂ l₃ l₄ l₅ l₆ l₇ l₈ l₉ l₁₀ l₁₁ l₁₂ l₁₃ l₁₄) (more 𝓣 q′ l₀ l₁ l₂ l₃ l₄ l₅ l₆ l₇ l₈ l₉ l₁₀ l₁₁ l₁₂ l₁₃ l₁₄) (ends 𝓣 q′ l₀ l₁ l₂ l₃ l₄ l₅ l₆ l₇ l₈ l₉ l₁₀ l₁₁ l₁₂ l₁₃ l₁₄) 0 k (zero-add k) tt)))))))))))))))))
+      keep ! (0 ∷ 4 ∷ 26 ∷ 24 ∷ 22 ∷ 20 ∷ 18 ∷ 16 ∷ 14 ∷ 12 ∷ 10 ∷ 36 ∷ 34 ∷ 32 ∷ 30 ∷ 28 ∷ 38 ∷ 1 ∷ 2 ∷ 3 ∷ 5 ∷ 8 ∷ 39 ∷ 37 ∷ 35 ∷ 33 ∷ 31 ∷ 29 ∷ 27 ∷ 25 ∷ 23 ∷ 21 ∷ 19 ∷ 17 ∷ 15 ∷ 13 ∷ 11 ∷ []) $ by ! (counted-loop 𝓤 H A W 𝓣 (En 𝓣 q′ l₀ l₁ l₂ l₃ l₄ l₅ l₆ l₇ l₈ l₉ l₁₀ l₁₁ l₁₂ l₁₃ l₁₄) body.turn-1 (Left 𝓣 q′ l₀ l₁ l₂ l₃ l₄ l₅ l₆ l₇ l₈ l₉ l₁₀ l₁₁ l₁₂ l₁₃ l₁₄) k (λ _. Unit {0}) (Γ 𝓣 q′ l₀ l₁ l₂ l₃ l₄ l₅ l₆ l₇ l₈ l₉ l₁₀ l₁₁ l₁₂ l₁₃ l₁₄) (more 𝓣 q′ l₀ l₁ l₂ l₃ l₄ l₅ l₆ l₇ l₈ l₉ l₁₀ l₁₁ l₁₂ l₁₃ l₁₄) (ends 𝓣 q′ l₀ l₁ l₂ l₃ l₄ l₅ l₆ l₇ l₈ l₉ l₁₀ l₁₁ l₁₂ l₁₃ l₁₄) 0 k (zero-add k) tt)))))))))))))))))
 
 module _ {M : Type 1} (𝓤 : URA M) (H : Heap 𝓤) (A : Atoms 𝓤) (W : Given 𝓤 H A) (mem : Memory → SProp 𝓤) (run : Routine → Fun 𝓤) where
   replace-walks : (𝓣 : Tables 𝓤 H) → Walks 𝓤 H A f.ended stayed (WpFn 𝓤 H (𝓣 .C) (𝓣 .Λ) code.function) (f.clauses 𝓤 H A mem run)
