@@ -36,14 +36,14 @@ module _ (good ready : Bool) (t : Table) (start stop end : ℕ) (gate : Gate) (r
     some : eqb (stop - start) 0 ≡ false
     some = ne-eqb (stop - start) 0 (λ z. omega (arith, z, l))
 
-    pub behind : t .count < start → r ≡ unchanged 24 (t .count) → r ≡ answered good ready t (start) (stop - start) (end - start) gate
+    pub starts-late : t .count < start → r ≡ unchanged 24 (t .count) → r ≡ answered good ready t (start) (stop - start) (end - start) gate
     unfolding answered
-    behind b e = rw (g, h, some, lt-ltb (t .count) (start) b) e
+    starts-late b e = rw (g, h, some, lt-ltb (t .count) (start) b) e
 
     module _ (b : start ≤ t .count) where
-      pub before : {n : ℕ} → gate ≡ Gate.Given n → start < t .count → r ≡ unchanged 25 (t .count) → r ≡ answered good ready t (start) (stop - start) (end - start) gate
+      pub starts-early : {n : ℕ} → gate ≡ Gate.Given n → start < t .count → r ≡ unchanged 25 (t .count) → r ≡ answered good ready t (start) (stop - start) (end - start) gate
       unfolding answered
-      before k z e = rw (g, h, some, le-ltb (t .count) (start) b, k, lt-ltb (start) (t .count) z) e
+      starts-early k z e = rw (g, h, some, le-ltb (t .count) (start) b, k, lt-ltb (start) (t .count) z) e
 
       pub gated : {n w : ℕ} → gate ≡ Gate.Given n → t .count ≤ start → w ≡ max start end → r ≡ moved (w - start) w → r ≡ answered good ready t (start) (stop - start) (end - start) gate
       unfolding answered

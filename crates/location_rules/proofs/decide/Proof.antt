@@ -1,7 +1,7 @@
 -- `location_rules::decide` meets its contract: a law for each way out.
 -- Assumes nothing.
 use borrow.Author.Tests.{not-true, not-false}
-use Rattle.location_rules.proofs.Deciding.{broken, unready, apart, behind, before, gated, ungated}
+use Rattle.location_rules.proofs.Deciding.{broken, unready, apart, starts-late, starts-early, gated, ungated}
 use borrow.Author.Needs.{needs}
 use Rattle.location_rules.proofs.decide.Statement.{statement}
 use Rattle.location_rules.proofs.decide.Tie as tie
@@ -28,7 +28,7 @@ unchanged-requires-4 : tie.Need-unchanged-requires-4
 unchanged-requires-4 c κs = search needs
 
 returns-4 : tie.Need-returns-4
-returns-4 c = behind _ _ _ _ _ _ _ _ (not-false _ (c .before .before .before .before .if1 .left)) (not-false _ (c .before .before .before .if2 .left)) (c .before .before .if3 .left) (c .before .if4 .taken) (c .unchanged4 .ensures)
+returns-4 c = starts-late _ _ _ _ _ _ _ _ (not-false _ (c .before .before .before .before .if1 .left)) (not-false _ (c .before .before .before .if2 .left)) (c .before .before .if3 .left) (c .before .if4 .taken) (c .unchanged4 .ensures)
 
 larger-requires : tie.Need-larger-requires
 larger-requires c κs = search needs
@@ -52,7 +52,7 @@ unchanged-requires-5 : tie.Need-unchanged-requires-5
 unchanged-requires-5 c κs = search needs
 
 returns-5 : tie.Need-returns-5
-returns-5 c = before _ _ _ _ _ _ _ _ (not-false _ (c .before .before .before .before .before .before .before .before .before .if1 .left)) (not-false _ (c .before .before .before .before .before .before .before .before .if2 .left)) (c .before .before .before .before .before .before .before .if3 .left) (c .before .before .before .before .before .before .if4 .left) (c .before .before .before .gate .given .1) (c .before .if5 .taken) (c .unchanged5 .ensures)
+returns-5 c = starts-early _ _ _ _ _ _ _ _ (not-false _ (c .before .before .before .before .before .before .before .before .before .if1 .left)) (not-false _ (c .before .before .before .before .before .before .before .before .if2 .left)) (c .before .before .before .before .before .before .before .if3 .left) (c .before .before .before .before .before .before .if4 .left) (c .before .before .before .gate .given .1) (c .before .if5 .taken) (c .unchanged5 .ensures)
 
 moved-requires-2 : tie.Need-moved-requires-2
 moved-requires-2 c κs = search needs
