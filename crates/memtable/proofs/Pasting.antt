@@ -6,7 +6,7 @@ use native.Mathlib.Omega.{arith}
 use mathlib.Core.Bool.{Bool, true}
 use mathlib.Core.List.{List, _++_}
 use lib.ListN.{length, take, drop, length-drop, take-append-drop}
-use lib.Seq.{paste, length-paste, take-paste, drop-paste, take-add, drop-drop, take-append-le, take-take, length-take-le}
+use lib.Seq.{paste, take-paste, drop-paste, take-add, drop-drop, take-append-le, take-take, length-take-le}
 use Rattle.pipe_log.specs.declared.Location.{Location}
 use Rattle.location_rules.specs.Row.{inAppend, inRewrite}
 use Rattle.memtable.specs.Rows.{rowsIn}
@@ -18,27 +18,18 @@ module _ (xs : List Location) (p : ℕ) (src : List Location) (k : ℕ) (in-rows
   p-in : p ≤ length xs
   p-in = omega arith
 
-  pub front-is : take (p + k) (paste xs p src k) ≡ take p xs ++ take k src
-  front-is = take-paste xs p src k p-in in-source
-
   -- rows outside the run are as they were
   pub before-same : take p (paste xs p src k) ≡ take p xs
-  before-same = sym (take-take p (p + k) (paste xs p src k) (omega arith)) ∙ ap (take p) front-is ∙ take-append-le p (take p xs) (take k src) (omega (arith, length-take-le p xs p-in)) ∙ take-take p p xs (omega arith)
-
-  pub behind-same : drop (p + k) (paste xs p src k) ≡ drop (p + k) xs
-  behind-same = drop-paste xs p src k p-in in-source
-
-  pub length-same : length (paste xs p src k) ≡ length xs
-  length-same = length-paste xs p src k in-rows in-source
+  before-same = sym (take-take p (p + k) (paste xs p src k) (omega arith)) ∙ ap (take p) (take-paste xs p src k p-in in-source) ∙ take-append-le p (take p xs) (take k src) (omega (arith, length-take-le p xs p-in)) ∙ take-take p p xs (omega arith)
 
   -- the first p + k + j rows are in the rewrite queue, the others in the append queue
   pub rewrite-front : (j : ℕ) → all inRewrite (take p xs) ≡ true → all inRewrite (take k src) ≡ true → all inRewrite (take j (drop (p + k) xs)) ≡ true → all inRewrite (take (p + k + j) (paste xs p src k)) ≡ true
   rewrite-front j a b c =
-      ap (all inRewrite) (take-add (p + k) j (paste xs p src k) ∙ ap (λ (l : List Location). l ++ take j (drop (p + k) (paste xs p src k))) front-is ∙ ap (λ (l : List Location). (take p xs ++ take k src) ++ take j l) behind-same)
+      ap (all inRewrite) (take-add (p + k) j (paste xs p src k) ∙ ap (λ (l : List Location). l ++ take j (drop (p + k) (paste xs p src k))) (take-paste xs p src k p-in in-source) ∙ ap (λ (l : List Location). (take p xs ++ take k src) ++ take j l) (drop-paste xs p src k p-in in-source))
       ∙ all-join inRewrite (take p xs ++ take k src) (take j (drop (p + k) xs)) (all-join inRewrite (take p xs) (take k src) a b) c
 
   pub append-back : (j : ℕ) → drop (p + k + j) (paste xs p src k) ≡ drop (p + k + j) xs
-  append-back j = sym (drop-drop j (p + k) (paste xs p src k)) ∙ ap (drop j) behind-same ∙ drop-drop j (p + k) xs
+  append-back j = sym (drop-drop j (p + k) (paste xs p src k)) ∙ ap (drop j) (drop-paste xs p src k p-in in-source) ∙ drop-drop j (p + k) xs
 
   -- xs as what stands before the run, the run, and what stands behind it
   parts : xs ≡ take p xs ++ take k (drop p xs) ++ drop (p + k) xs
@@ -55,14 +46,8 @@ module _ (xs : List Location) (p : ℕ) (src : List Location) (k : ℕ) (in-rows
     rows-after = three (take p xs) (take k src) (drop (p + k) xs)
 
   module _ (old : all inAppend (take k (drop p xs)) ≡ true) (new : all inRewrite (take k src) ≡ true) where
-    old-long : length (take k (drop p xs)) ≡ k
-    old-long = length-take-le k (drop p xs) (omega (arith, length-drop p xs))
-
-    new-long : length (take k src) ≡ k
-    new-long = length-take-le k src in-source
-
     pub append-falls : rowsIn inAppend xs ≡ rowsIn inAppend (paste xs p src k) + k
-    append-falls = omega (arith, rows-before inAppend, rows-after inAppend, rowsIn-all inAppend (take k (drop p xs)) old, old-long, none-in inRewrite inAppend (λ r. not-rewrite (r .queue)) (take k src) new)
+    append-falls = omega (arith, rows-before inAppend, rows-after inAppend, rowsIn-all inAppend (take k (drop p xs)) old, length-take-le k (drop p xs) (omega (arith, length-drop p xs)), none-in inRewrite inAppend (λ r. not-rewrite (r .queue)) (take k src) new)
 
     pub rewrite-rises : rowsIn inRewrite (paste xs p src k) ≡ rowsIn inRewrite xs + k
-    rewrite-rises = omega (arith, rows-before inRewrite, rows-after inRewrite, rowsIn-all inRewrite (take k src) new, new-long, none-in inAppend inRewrite (λ r. not-append (r .queue)) (take k (drop p xs)) old)
+    rewrite-rises = omega (arith, rows-before inRewrite, rows-after inRewrite, rowsIn-all inRewrite (take k src) new, length-take-le k src in-source, none-in inAppend inRewrite (λ r. not-append (r .queue)) (take k (drop p xs)) old)

@@ -7,7 +7,7 @@ use native.Mathlib.Omega.{arith}
 use mathlib.Core.Bool.{true}
 use mathlib.Core.List.{List, [], _∷_}
 use lib.ListN.{length, take, drop}
-use lib.Seq.{paste, paste-zero, take-take, drop-drop}
+use lib.Seq.{paste, paste-zero, length-paste, drop-paste, take-take, drop-drop}
 use borrow.Author.Tests.{ltb-false}
 use denote.Ref.{now}
 use contract.Lifetimes.{Lfts}
@@ -33,7 +33,7 @@ use Rattle.memtable.proofs.RunLaws.{run-over}
 use Rattle.memtable.proofs.Surveys.{formed-count}
 use Rattle.memtable.proofs.Tables.{formed-parts, formed-of, ready-all, ready-fits, ready-of, run-short, rest-rewrite}
 use Rattle.memtable.proofs.Fetches.{fetched-is, fetched-formed, whole-run}
-use Rattle.memtable.proofs.Pasting.{before-same, behind-same, length-same, rewrite-front, append-back, append-falls, rewrite-rises}
+use Rattle.memtable.proofs.Pasting.{before-same, rewrite-front, append-back, append-falls, rewrite-rises}
 use Rattle.memtable.proofs.Outcomes.{kept, done, place, source, overlap, run, Outcomes, outcome, after-is, run-in-rows, run-in-source}
 
 -- An empty table is well formed for any first index when its count is 0.
@@ -65,7 +65,7 @@ module _ (rows : List Location) (t : Table) (incoming : List Location) (first : 
     where
       told : (r : Rewritten) → Outcomes rows t incoming first gate r → length (paste rows p src (r .replaced)) ≡ length rows
       told _ (kept number) = ap length (sym same)
-      told _ (done g h o l e) = length-same rows p src (run rows t incoming first gate) (run-in-rows rows t incoming first gate o) (run-in-source rows t incoming first gate)
+      told _ (done g h o l e) = length-paste rows p src (run rows t incoming first gate) (run-in-rows rows t incoming first gate o) (run-in-source rows t incoming first gate)
 
   -- "A refused one holds 0 and the old count", and lent memory is unchanged.
   pub refused-kept : (rewriteOf rows t incoming first gate .number ≡ 0 → ⊥) → Kept rows t (rewriteOf rows t incoming first gate) (rowsAfter rows t incoming first gate)
@@ -88,7 +88,7 @@ module _ (rows : List Location) (t : Table) (incoming : List Location) (first : 
     where
       told : (r : Rewritten) → Outcomes rows t incoming first gate r → drop (p + r .replaced) (paste rows p src (r .replaced)) ≡ drop (p + r .replaced) rows
       told _ (kept number) = ap (drop (p + 0)) (sym same)
-      told _ (done g h o l e) = behind-same rows p src (run rows t incoming first gate) (run-in-rows rows t incoming first gate o) (run-in-source rows t incoming first gate)
+      told _ (done g h o l e) = drop-paste rows p src (run rows t incoming first gate) (omega (arith, run-in-rows rows t incoming first gate o)) (run-in-source rows t incoming first gate)
 
   -- A rewrite leaves a well-formed table well formed, with its new count.
   pub formed-stays : wellFormed rows t ≡ true → wellFormed (rowsAfter rows t incoming first gate) (newTable rows t incoming first gate) ≡ true
@@ -107,7 +107,7 @@ module _ (rows : List Location) (t : Table) (incoming : List Location) (first : 
           (ap (all inAppend) (append-back rows p src k in-rows in-source j) ∙ back) (omega (arith, long, parts .1 .1))
         where
           long : length (paste rows p src k) ≡ length rows
-          long = length-same rows p src k in-rows in-source
+          long = length-paste rows p src k in-rows in-source
 
           front : all inRewrite (take p rows) ≡ true
           front = ap (all inRewrite) (sym (take-take p (t .count) rows l)) ∙ all-take inRewrite p (take (t .count) rows) (parts .0)
