@@ -1,71 +1,25 @@
--- A body's seal, and what is read of a body and of its plain form.
+-- What is read of a body and of its plain form.
 -- Assumes nothing.
 use Prim.Native.Nat.{ℕ, zero, suc, _-_, _<_}
 use mathlib.Core.Path.{_≡_, refl, sym, ap}
-use mathlib.Core.Bool.{Bool, true, false, cond}
-use mathlib.Core.List.{List, _++_}
+use mathlib.Core.List.{List}
 use native.Mathlib.Omega.{arith}
-use lib.Bits.{bitXor}
 use lib.ListN.{length, drop, length-append, length-drop, take-append-drop}
-use lib.Seq.{take-at, drop-at}
-use borrow.Author.Tests.{leb-false, eqb-true, lt-leb, eq-eqb}
-use Rattle.words.specs.Word.{littleEndian}
-use Rattle.crc.specs.Crc.{crcOf}
 use Rattle.field.specs.declared.Form.the-variants.{Any, Plain}
 use Rattle.log_item.specs.declared.LogItem.{LogItem}
 use Rattle.log_item.specs.declared.EntryIndex.{EntryIndex}
 use Rattle.words.specs.Byte.{Bytes}
-use Rattle.log_item.proofs.Place.{bytes-at, at-front}
+use Rattle.words.proofs.Bytes.{bytes-take}
 use Rattle.body_check.specs.declared.PlainForm.the-variants as plain
 use Rattle.one_reading.specs.Acceptable.{Begins, Acceptable}
 use Rattle.one_reading.specs.Plain.{InPlainForm}
 use Rattle.body_check.specs.Reading.{Answer, accepted, rejected, readItems}
-use Rattle.seal.specs.Seal.{sealedPart, footer, sealCheck}
+use Rattle.seal.specs.Seal.{sealedPart, sealCheck}
+use Rattle.seal.proofs.Sealing.{Sealed, sealed, part-of, sealed-of}
 use Rattle.body_check.specs.Body.{unless, readBody}
 use Rattle.body_check.specs.Answers.{plainOf, plainBody}
 use Rattle.one_reading.proofs.Accepts.{of-accepted}
 use Rattle.one_reading.proofs.Listing.{complete, sound, spells-some, begins-any}
-
--- The seal of bytes is right: there are more than four, and the last four are the checksum of the others XORed with the signature.
-pub record Sealed (b : List ℕ) (signature : ℕ) : Type 0 where
-  pub long : 4 < length b
-  pub right : footer b ≡ bitXor (crcOf (sealedPart b)) signature
-
--- Neither check fails.
-passed : (a b : Bool) → _≡_ {A = ℕ} (cond a 5 (cond b 0 6)) 0 → (a ≡ false) × (b ≡ true)
-passed true b e = absurd (omega arith)
-passed false true e = (refl, refl)
-passed false false e = absurd (omega arith)
-
--- Bytes that pass both checks have a right seal.
-pub sealed : (b : List ℕ) (signature : ℕ) → sealCheck b signature ≡ 0 → Sealed b signature
-unfolding sealCheck
-sealed b signature e = let p = passed _ _ e in record { long = leb-false _ _ (p .0); right = eqb-true _ _ (p .1) }
-
--- What stands before the footer is bytes where the body is.
-pub bytes-before : (b : List ℕ) → Bytes b → Bytes (sealedPart b)
-bytes-before b bytes =
-    let front = at-front (sealedPart b) (drop (length b - 4) b) in
-    bytes-at front (rw take-append-drop bytes)
-
--- Of a part and four bytes behind it, the sealed part and the footer are these.
-pub part-of : (rest last : List ℕ) → length last ≡ 4 → sealedPart (rest ++ last) ≡ rest
-part-of rest last four =
-    let long : length rest ≡ length (rest ++ last) - 4 = omega (arith, length-append rest last) in
-    take-at rest last _ long
-
-pub footer-of : (rest last : List ℕ) → length last ≡ 4 → footer (rest ++ last) ≡ littleEndian last
-footer-of rest last four =
-    let long : length rest ≡ length (rest ++ last) - 4 = omega (arith, length-append rest last) in
-    ap littleEndian (drop-at rest last _ long)
-
--- Where the part is not empty and the four bytes are its checksum XOR the signature, the seal is right.
-pub sealed-of : (rest last : List ℕ) (signature : ℕ) → 0 < length rest → length last ≡ 4 → littleEndian last ≡ bitXor (crcOf rest) signature
-    → sealCheck (rest ++ last) signature ≡ 0
-unfolding sealCheck
-sealed-of rest last signature some four checks =
-    let long : 4 < length (rest ++ last) = omega (arith, length-append rest last) in
-    rw (lt-leb _ _ long, part-of rest last four, footer-of rest last four, eq-eqb _ _ checks)
 
 module _ {xs : List LogItem} {rows : List EntryIndex} {u q : ℕ} where
   -- An accepted answer was not refused before.
@@ -133,7 +87,7 @@ module _ (body : List ℕ) (signature : ℕ) where
   unfolding plainBody
   sound-plain bytes e =
       let t = twice (readBody body signature) (readItems Plain (sealedPart body)) e in
-      let h = of-accepted (sound Plain (sealedPart body) (bytes-before body bytes)) (t .1 .4) in
+      let h = of-accepted (sound Plain (sealedPart body) (bytes-take (length body - 4) body bytes)) (t .1 .4) in
       record {
         items = t .1 .0;
         rows = t .1 .1;

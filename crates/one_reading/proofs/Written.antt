@@ -52,11 +52,12 @@ use Rattle.one_reading.proofs.ListWritten.{items-fine, encodes}
 use Rattle.item_batch.specs.declared.LogItemBatch.{LogItemBatch}
 use Rattle.body_check.specs.Reading.{accepted, rejected}
 use Rattle.seal.specs.Seal.{sealCheck}
+use Rattle.seal.proofs.Sealing.{part-of, footer-of}
 use Rattle.body_check.specs.Body.{readBody}
 use Rattle.item_batch.specs.Writing as table
 use Rattle.item_batch.specs.Writing.{listed, BodyWritten, itemsAt, rowsAt, bodyItems, bodyRows, keysAndContents, AllSmall}
 use Rattle.one_reading.proofs.Listing.{spells-as, spells-some}
-use Rattle.one_reading.proofs.Bodies.{part-of, footer-of, complete-body}
+use Rattle.one_reading.proofs.Bodies.{complete-body}
 use Rattle.body_check.proofs.Bodies.{body-refused}
 use Rattle.one_reading.proofs.WrittenBytes.{AllBytes, bytes-all, shortest-bytes, item-bytes}
 

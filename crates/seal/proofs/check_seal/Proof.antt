@@ -3,7 +3,7 @@
 use mathlib.Core.Path.{sym, _∙_}
 use denote.Ref.{now}
 use lib.Seq.{length-take-le}
-use Rattle.seal.proofs.Sealing.{seal-short, seal-good, seal-wrong, seal-there}
+use Rattle.seal.proofs.Sealing.{seal-short, seal-right, seal-wrong, seal-there}
 use native.Mathlib.Omega.{arith}
 use borrow.Author.Needs.{needs}
 use Rattle.seal.proofs.check_seal.Statement.{statement}
@@ -32,7 +32,7 @@ enum-told c = search needs
 
 returns-2 : tie.Need-returns-2
 returns-2 c = let a = c .before .before .before .before .before .before .before .before .before .args in
-    seal-good (now (a .bytes)) (a .signature) (omega arith) (sym (c .before .before .before .before .before .before .decode-u32-le .ensures) ∙ c .before .before .before .before .value .given .1) (c .before .crc32 .ensures) (c .if2 .taken)
+    seal-right (now (a .bytes)) (a .signature) (omega arith) (sym (c .before .before .before .before .before .before .decode-u32-le .ensures) ∙ c .before .before .before .before .value .given .1) (c .before .crc32 .ensures) (c .if2 .taken)
 
 returns-3 : tie.Need-returns-3
 returns-3 c = let a = c .before .before .before .before .before .before .before .before .before .args in
