@@ -212,9 +212,9 @@ module _ (s : List ℕ) (x : LogItem) (lengths : List ℕ) (t : ℕ) (w : Writab
       let f = placed-at out at (itemBytes s x lengths t) room in
       (read-item-at form e f few last, spans-kept f)
 
-pub first-none : (n r : ℕ) → firstOf n r ≡ 0 → (n ≡ 0) × (r ≡ 0)
-first-none zero r h = (refl, h)
-first-none (suc n) r h = absurd (omega arith)
+pub neither-refused : (n r : ℕ) → firstOf n r ≡ 0 → (n ≡ 0) × (r ≡ 0)
+neither-refused zero r h = (refl, h)
+neither-refused (suc n) r h = absurd (omega arith)
 
 -- The first index is among the numbers of a content.
 pub first-small : (k : LogItemContent) → Small (numbersOf k) → entriesOf k .«first_index» < 2 ^ 64
@@ -235,8 +235,8 @@ pub encode-accepted : (s : List ℕ) (x : LogItem) (lengths : List ℕ) (t : ℕ
 unfolding itemRefusal
 encode-accepted s x lengths t out at (one g z) h =
     let long : ℕ = at + length (itemBytes s x lengths t) in
-    let a = first-none (contentRefusal s false 0 (length lengths) (x .content)) _ h in
-    let b = first-none (tailRefusal x lengths t) (cond (leb long (length out)) 0 21) (a .1) in
+    let a = neither-refused (contentRefusal s false 0 (length lengths) (x .content)) _ h in
+    let b = neither-refused (tailRefusal x lengths t) (cond (leb long (length out)) 0 21) (a .1) in
     let c = taken (leb long (length out)) 20 0 (b .1) in
     let d = untaken (ltb 4294967295 (sumOf t (rowLengths x lengths))) 15 0 (b .0) in
     let allowed = content-allowed s false 0 (length lengths) (x .content) (a .0) in

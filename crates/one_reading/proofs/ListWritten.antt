@@ -25,7 +25,7 @@ use Rattle.log_item.proofs.Refusals.{untaken}
 use Rattle.list_measure.proofs.Heads.{unless-fine}
 use Rattle.list_writer.proofs.Bodies.{accepted, body-length}
 use Rattle.one_reading.proofs.Encoding.{Encodes, writes, leaves}
-use Rattle.one_reading.proofs.ItemWritten.{first-none}
+use Rattle.one_reading.proofs.ItemWritten.{neither-refused}
 
 -- ---- items
 
@@ -37,7 +37,7 @@ pub items-fine : (s : List ℕ) (checked : Bool) (x : LogItem) (xs : List LogIte
 unfolding itemsVerdict
 items-fine s checked x xs ns used k t u e =
     let a = unless-fine (firstOf (contentRefusal s checked used (used + length ns) (x .content)) (tailRefusal x ns t)) k _ u e in
-    let b = first-none (contentRefusal s checked used (used + length ns) (x .content)) (tailRefusal x ns t) (a .0) in
+    let b = neither-refused (contentRefusal s checked used (used + length ns) (x .content)) (tailRefusal x ns t) (a .0) in
     let c = untaken (ltb 4294967295 (sumOf t (rowLengths x ns))) 15 0 (b .1) in
     (b .0, ltb-false _ _ (c .0), a .1)
 
