@@ -4,7 +4,6 @@ use Prim.Native.Nat.{ℕ, suc, _+_, _-_, _*_, _^_, _%_, _≤_, _<_}
 use mathlib.Core.Path.{_≡_, refl, sym, ap, _∙_}
 use mathlib.Core.List.{List, [], _∷_, append-nil}
 use native.Mathlib.Omega.{arith}
-use borrow.Author.Tests.{le-leb, lt-leb}
 use types.Run.{OneOf}
 use denote.Enum.Declared.{tagOf}
 use mathlib.Core.Logic.{inl, inr}
@@ -16,14 +15,16 @@ use Rattle.numbers.specs.declared.NumberRead.the-variants.{Done, Eof, Overflow}
 use Rattle.numbers.proofs.NumberRead.{the-type}
 use Rattle.field.specs.Got.{got, refused}
 use Rattle.log_item.specs.Entries.{entriesOf}
-use Rattle.field.specs.Reading.{numberGot, number}
+use Rattle.field.specs.Reading.{numberGot}
+use Rattle.field.proofs.Fields.{number-any}
 use Rattle.log_item.specs.Reading.{head, tail, tails}
 use Rattle.field.specs.declared.Form.the-variants.{Any}
 use Rattle.log_item.specs.declared.LogItem.{LogItem}
 use Rattle.log_item.specs.declared.EntryIndex.{EntryIndex}
 use Rattle.log_item.specs.declared.EntryIndexes.{EntryIndexes}
 use Rattle.log_item.proofs.Known.{tail-known, head-known, head-room}
-use Rattle.body_check.specs.Reading.{accepted, rejected, items, count, readItems}
+use Rattle.body_check.specs.Reading.{accepted, rejected, items, readItems}
+use Rattle.body_check.proofs.Checking.{count-good}
 use Rattle.log_item.specs.Blank.{blankItem, blankEntry}
 use Rattle.item_batch.proofs.Rows.{FilledRows, rows-none, rows-set, rows-take}
 use Rattle.item_batch.proofs.Coming.{prepend, behind, rowOf, rest, prepend-none, prepend-item, prepend-row, row-suc, bad-suc, rest-zero, item-suc, no-item}
@@ -45,25 +46,13 @@ pub record Filling (s : List ℕ) (k : ℕ) (xs : List LogItem) (rows : List Ent
 -- ---- the count
 
 -- the keys 1 and 2 are those of the numbers that are broken
-not-done : (r : NumberRead) → OneOf (1 ∷ 2 ∷ []) (tagOf the-type r) → numberGot r ≡ refused 7
+pub not-done : (r : NumberRead) → OneOf (1 ∷ 2 ∷ []) (tagOf the-type r) → numberGot r ≡ refused 7
 not-done (Done k q) (inl e) = absurd (omega arith)
 not-done (Done k q) (inr e) = absurd (omega arith)
 not-done Eof e = refl
 not-done Overflow e = refl
 
 module _ (s : List ℕ) where
-  pub count-broken : {r : NumberRead} → r ≡ readNumber s 0 → OneOf (1 ∷ 2 ∷ []) (tagOf the-type r) → readItems Any s ≡ rejected 7 0
-  unfolding readItems count number
-  count-broken {r} e h = rw (← e, not-done r h)
-
-  pub count-large : {k q : ℕ} → readNumber s 0 ≡ Done k q → 256 < k → readItems Any s ≡ rejected 9 0
-  unfolding readItems count number
-  count-large e h = rw (e, lt-leb _ _ h)
-
-  count-known : {k q : ℕ} → readNumber s 0 ≡ Done k q → k ≤ 256 → readItems Any s ≡ items Any s k 0 0 0 q
-  unfolding readItems count number
-  count-known e h = rw (e, le-leb _ _ h)
-
   pub begun : {k q : ℕ} → readNumber s 0 ≡ Done k q → k ≤ 256
       → Filling s k (replicate 256 blankItem) (replicate 1024 blankEntry) (record { number = 0; item = 0 }) 0 0 q 0 0 0
   begun {k} {q} e h =
@@ -79,7 +68,7 @@ module _ (s : List ℕ) where
         filled-rows = rows-none 1024;
         unrefused = refl;
         so-far =
-            prepend-none _ ∙ rest-zero s k 0 0 q 0 0 ∙ ap (λ (m : ℕ). items Any s m 0 0 0 q) all ∙ sym (count-known e h);
+            prepend-none _ ∙ rest-zero s k 0 0 q 0 0 ∙ ap (λ (m : ℕ). items Any s m 0 0 0 q) all ∙ sym (count-good Any s (sym (number-any s 0 refl e)) h);
       }
 
 -- ---- the turns

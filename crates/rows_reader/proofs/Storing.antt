@@ -2,7 +2,7 @@
 -- fills a table, with the table's rows stored as words.
 -- Assumes nothing.
 use Prim.Native.Nat.{ℕ, _+_, _-_, _*_, _^_, _%_, _≤_, _<_}
-use mathlib.Core.Path.{_≡_, refl, ap, _∙_}
+use mathlib.Core.Path.{_≡_, refl, sym, ap, _∙_}
 use mathlib.Core.Bool.{Bool, true, false}
 use mathlib.Core.List.{List, [], _∷_, _++_, flatMap}
 use native.Mathlib.Omega.{arith}
@@ -29,10 +29,12 @@ use Rattle.item_row.specs.Row.{itemWords, entryWords, itemsWords, entriesWords}
 use Rattle.item_row.proofs.Words.{item-length, items-length, entries-length, flat-more}
 use Rattle.log_item.specs.Private.{Stored}
 use Rattle.log_item.proofs.Stores.{stored-none, stored-then, stored-length, stored-same}
+use Rattle.field.proofs.Fields.{number-any, number-broken}
 use Rattle.body_check.specs.Reading.{Answer, accepted, rejected, readItems}
+use Rattle.body_check.proofs.Checking.{count-broken, count-many}
 use Rattle.item_batch.proofs.Rows.{rows-take, rows-length}
 use Rattle.item_batch.proofs.Coming.{prepend, rowOf, rest}
-use Rattle.item_batch.proofs.Filling.{Filling, count-broken, count-large, begun, next-row, row-refused, ended, next-item, item-refused}
+use Rattle.item_batch.proofs.Filling.{Filling, not-done, begun, next-row, row-refused, ended, next-item, item-refused}
 use Rattle.rows_reader.specs.Lent.{Filled}
 use Rattle.rows_reader.specs.Private.{Words, Fits}
 
@@ -54,14 +56,14 @@ never f e =
     absurd (omega arith)
 
 pub not-broken : {A : Type 0} {s items entries : List ℕ} {r : NumberRead} → Fits s items entries → r ≡ readNumber s 0 → OneOf (1 ∷ 2 ∷ []) (tagOf the-type r) → A
-not-broken {s = s} f e h = never f (count-broken s e h)
+not-broken {s = s} {r = r} f e h = never f (count-broken Any s (sym (number-broken Any s 0 (sym e) (not-done r h))))
 
 pub few : {s items entries : List ℕ} {k q : ℕ} → Fits s items entries → readNumber s 0 ≡ Done k q → k ≤ 256
 few {s} {items} {entries} {k} f e = go (leb k 256) refl
   where
     go : (b : Bool) → leb k 256 ≡ b → k ≤ 256
     go true h = leb-true k 256 h
-    go false h = never f (count-large s e (leb-false k 256 h))
+    go false h = never f (count-many Any s (sym (number-any s 0 refl e)) (leb-false k 256 h))
 
 -- What stands in front of something is not longer than the whole.
 in-front : (xs : List LogItem) (rows : List EntryIndex) (a : Answer) {all : List LogItem} {more : List EntryIndex} {u q : ℕ}

@@ -2,12 +2,13 @@
 -- answer. The measure is the items left, each with room for all tails, and the tails left.
 -- Assumes nothing.
 use Prim.Native.Nat.{_+_, _-_, _*_}
-use mathlib.Core.Path.{_≡_, refl}
+use mathlib.Core.Path.{_≡_, refl, sym}
 use Rattle.log_item.specs.Answers.{headGot, tailGot}
 use Rattle.field.specs.declared.Form.the-variants.{Any}
-use Rattle.field.proofs.Fields.{learnt}
+use Rattle.field.proofs.Fields.{learnt, number-any, number-broken}
+use Rattle.body_check.proofs.Checking.{count-broken, count-many}
 use Rattle.log_item.proofs.Known.{tail-known, head-room}
-use Rattle.item_batch.proofs.Filling.{Filling, count-broken, count-large, begun, next-row, row-refused, ended, next-item, item-refused}
+use Rattle.item_batch.proofs.Filling.{Filling, not-done, begun, next-row, row-refused, ended, next-item, item-refused}
 use Rattle.item_batch.proofs.Tables.{refused-table, filled}
 use borrow.Author.Needs.{needs}
 use native.Mathlib.Omega.{arith}
@@ -33,8 +34,9 @@ empty-requires c κs = search needs
 
 returns : tie.Need-returns Inv-loop μ-loop
 returns c =
+    let number = c .before .before .decode-var-u64 in
     refused-table _ _ (c .empty .ensures)
-    (count-broken _ (c .before .before .decode-var-u64 .ensures) (c .before .match .keys2))
+    (count-broken _ _ (sym (number-broken Any _ _ (sym (number .ensures)) (not-done (number .result) (c .before .match .keys2)))))
 
 empty-requires-2 : tie.Need-empty-requires-2 Inv-loop μ-loop
 empty-requires-2 c κs = search needs
@@ -43,7 +45,7 @@ returns-2 : tie.Need-returns-2 Inv-loop μ-loop
 returns-2 c =
     let value = c .before .before .before in
     refused-table _ _ (c .empty2 .ensures)
-    (count-large _ (learnt (λ r. r) (value .before .before .decode-var-u64 .ensures) (value .value .given .1)) (c .before .if1 .taken))
+    (count-many _ _ (sym (number-any _ _ refl (learnt (λ r. r) (value .before .before .decode-var-u64 .ensures) (value .value .given .1)))) (c .before .if1 .taken))
 
 empty-requires-3 : tie.Need-empty-requires-3 Inv-loop μ-loop
 empty-requires-3 c κs = search needs
