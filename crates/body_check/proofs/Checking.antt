@@ -24,7 +24,7 @@ use Rattle.body_check.specs.Body.{readBody}
 use Rattle.seal.specs.Seal.{sealedPart, sealCheck}
 use Rattle.body_check.specs.declared.Passed.the-variants as passed
 use Rattle.body_check.specs.Private.{itemPassed}
-use Rattle.body_check.specs.Answers.{checkOf, plainOf, plainBody}
+use Rattle.body_check.specs.Answers.{checkOf, plainBody}
 use Rattle.seal.proofs.Sealing.{seal-long}
 use Rattle.body_check.proofs.Bodies.{body-refused}
 
@@ -46,52 +46,52 @@ module _ (form : Form) (s : List ℕ) where
 -- ---- the items
 
 -- what a body holds, where i items with e entries stand before those of the answer
-abbrev pub onto : ℕ → ℕ → Answer → BodyCheck
-onto i e (accepted xs rows u q) = Accepted (i + length xs) (e + length rows) u q
-onto i e (rejected r k) = Refused (record { number = r; item = k })
+abbrev pub heldAfter : ℕ → ℕ → Answer → BodyCheck
+heldAfter i e (accepted xs rows u q) = Accepted (i + length xs) (e + length rows) u q
+heldAfter i e (rejected r k) = Refused (record { number = r; item = k })
 
-pub onto-none : (a : Answer) → onto 0 0 a ≡ checkOf a
-onto-none (accepted xs rows u q) = ap₂ (λ (m n : ℕ). Accepted m n u q) (zero-add (length xs)) (zero-add (length rows))
-onto-none (rejected r k) = refl
+pub held-none : (a : Answer) → heldAfter 0 0 a ≡ checkOf a
+held-none (accepted xs rows u q) = ap₂ (λ (m n : ℕ). Accepted m n u q) (zero-add (length xs)) (zero-add (length rows))
+held-none (rejected r k) = refl
 
-onto-before : (i e : ℕ) (x : LogItem) (rows : List EntryIndex) (a : Answer) → onto i e (before x rows a) ≡ onto (i + 1) (e + length rows) a
-onto-before i e x rows (accepted xs more u q) =
+held-before : (i e : ℕ) (x : LogItem) (rows : List EntryIndex) (a : Answer) → heldAfter i e (before x rows a) ≡ heldAfter (i + 1) (e + length rows) a
+held-before i e x rows (accepted xs more u q) =
     let m : i + suc (length xs) ≡ i + 1 + length xs = omega arith in
     let n : e + length (rows ++ more) ≡ e + length rows + length more = omega (arith, length-append rows more) in
     ap₂ (λ (y z : ℕ). Accepted y z u q) m n
-onto-before i e x rows (rejected r k) = refl
+held-before i e x rows (rejected r k) = refl
 
 module _ (form : Form) (s : List ℕ) where
   -- What is still to be read at an item is what the whole comes to.
   pub record ItemsLeft (count start i at total used : ℕ) : Type 0 where
     pub few : i ≤ count
-    pub comes : onto i used (items form s (count - i) i used total at) ≡ checkOf (items form s count 0 0 0 start)
+    pub comes : heldAfter i used (items form s (count - i) i used total at) ≡ checkOf (items form s count 0 0 0 start)
 
   pub left-start : (count start : ℕ) → ItemsLeft count start 0 start 0 0
   left-start count start =
       let all : count - 0 ≡ count = omega arith in
-      record { few = omega arith; comes = rw all (onto-none (items form s count 0 0 0 start)) }
+      record { few = omega arith; comes = rw all (held-none (items form s count 0 0 0 start)) }
 
   module _ (k i e t p : ℕ) where
-    one-more : {u m q : ℕ} → passed.Done q u m ≡ itemPassed (passItem form s e t p) → onto i e (items form s (suc k) i e t p) ≡ onto (i + 1) m (items form s k (i + 1) m u q)
+    one-more : {u m q : ℕ} → passed.Done q u m ≡ itemPassed (passItem form s e t p) → heldAfter i e (items form s (suc k) i e t p) ≡ heldAfter (i + 1) m (items form s k (i + 1) m u q)
     unfolding items passItem
     one-more {u} {m} {q} h = go (oneItem form s e t p) h
       where
         go : (g : Got Read) → passed.Done q u m ≡ itemPassed (bind {A = Read} {B = Counted} g (λ r. done (record { item = r .item; total = r .total; used = e + length (r .rows) })))
-            → onto i e (inFront i g (λ r z. items form s k (i + 1) (e + length (r .rows)) (r .total) z)) ≡ onto (i + 1) m (items form s k (i + 1) m u q)
+            → heldAfter i e (inFront i g (λ r z. items form s k (i + 1) (e + length (r .rows)) (r .total) z)) ≡ heldAfter (i + 1) m (items form s k (i + 1) m u q)
         go (got r z) f =
             let place : z ≡ q = cc in
             let total : r .total ≡ u = cc in
             let used : e + length (r .rows) ≡ m = cc in
-            onto-before i e (r .item) (r .rows) (items form s k (i + 1) (e + length (r .rows)) (r .total) z) ∙ rw (place, total, used)
+            held-before i e (r .item) (r .rows) (items form s k (i + 1) (e + length (r .rows)) (r .total) z) ∙ rw (place, total, used)
         go (refused r) f = let z : _≡_ {A = ℕ} 0 1 = cc in absurd (omega arith)
 
-    stop : {r : ℕ} → passed.Refused r ≡ itemPassed (passItem form s e t p) → onto i e (items form s (suc k) i e t p) ≡ Refused (record { number = r; item = i })
+    stop : {r : ℕ} → passed.Refused r ≡ itemPassed (passItem form s e t p) → heldAfter i e (items form s (suc k) i e t p) ≡ Refused (record { number = r; item = i })
     unfolding items passItem
     stop {r} h = go (oneItem form s e t p) h
       where
         go : (g : Got Read) → passed.Refused r ≡ itemPassed (bind {A = Read} {B = Counted} g (λ r. done (record { item = r .item; total = r .total; used = e + length (r .rows) })))
-            → onto i e (inFront i g (λ r z. items form s k (i + 1) (e + length (r .rows)) (r .total) z)) ≡ Refused (record { number = r; item = i })
+            → heldAfter i e (inFront i g (λ r z. items form s k (i + 1) (e + length (r .rows)) (r .total) z)) ≡ Refused (record { number = r; item = i })
         go (got x z) f = let z : _≡_ {A = ℕ} 0 1 = cc in absurd (omega arith)
         go (refused x) f = let y : x ≡ r = cc in rw y
 
@@ -119,38 +119,38 @@ module _ (form : Form) (s : List ℕ) where
         same : i ≡ count
         same = omega (arith, l .few)
 
-        ending : (k : ℕ) → k ≡ 0 → onto i used (items form s k i used total at) ≡ Accepted count used total at
+        ending : (k : ℕ) → k ≡ 0 → heldAfter i used (items form s k i used total at) ≡ Accepted count used total at
         ending k e = rw (e, items-none i used total at) (ap₂ (λ (m n : ℕ). Accepted m n total at) (add-zero i ∙ same) (add-zero used))
 
+-- ---- what a check tells of the reading
+
+pub told : {m n u q : ℕ} (a : Answer) → Accepted m n u q ≡ checkOf a
+    → (xs : List LogItem) × (rows : List EntryIndex) × (a ≡ accepted xs rows u q) × (length xs ≡ m) × (length rows ≡ n)
+told {u = u} {q = q} (accepted xs rows v z) e =
+    let total : v ≡ u = cc in
+    let place : z ≡ q = cc in
+    (xs, rows, rw (total, place), cc, cc)
+told (rejected r i) e = let z : _≡_ {A = ℕ} 0 1 = cc in absurd (omega arith)
+
+pub refusal-told : {x : Refusal} (a : Answer) → Refused x ≡ checkOf a → a ≡ rejected (x .number) (x .item)
+refusal-told (accepted xs rows u q) e = let z : _≡_ {A = ℕ} 0 1 = cc in absurd (omega arith)
+refusal-told {x} (rejected r i) e = let f : _≡_ {A = Refusal} x (record { number = r; item = i }) = cc in rw f
+
 -- ---- the plain form, from what the two readings hold
-
-by-refusal : {r : Refusal} (a b : Answer) → Refused r ≡ checkOf a → plain.Refused r ≡ plainOf a b
-by-refusal (accepted xs rows u q) b e = let z : _≡_ {A = ℕ} 0 1 = cc in absurd (omega arith)
-by-refusal (rejected r i) b e = cc
-
-by-yes : {m n u q k l v z : ℕ} (a b : Answer) → Accepted m n u q ≡ checkOf a → Accepted k l v z ≡ checkOf b → plain.Yes ≡ plainOf a b
-by-yes (accepted xs rows u q) (accepted ys more v z) e f = refl
-by-yes (accepted xs rows u q) (rejected r i) e f = let z : _≡_ {A = ℕ} 0 1 = cc in absurd (omega arith)
-by-yes (rejected r i) b e f = let z : _≡_ {A = ℕ} 0 1 = cc in absurd (omega arith)
-
-by-no : {m n u q : ℕ} {r : Refusal} (a b : Answer) → Accepted m n u q ≡ checkOf a → Refused r ≡ checkOf b → plain.No ≡ plainOf a b
-by-no (accepted xs rows u q) (rejected r i) e f = refl
-by-no (accepted xs rows u q) (accepted ys more v z) e f = let z : _≡_ {A = ℕ} 0 1 = cc in absurd (omega arith)
-by-no (rejected r i) b e f = let z : _≡_ {A = ℕ} 0 1 = cc in absurd (omega arith)
 
 module _ (body : List ℕ) (signature : ℕ) where
   pub plain-refused : {r : Refusal} → Refused r ≡ checkOf (readBody body signature) → plain.Refused r ≡ plainBody body signature
   unfolding plainBody
-  plain-refused e = by-refusal (readBody body signature) (readItems Plain (sealedPart body)) e
+  plain-refused e = rw (refusal-told (readBody body signature) e)
 
   module _ {m n u q : ℕ} (e : Accepted m n u q ≡ checkOf (readBody body signature)) where
     pub plain-yes : {k l v z : ℕ} → Accepted k l v z ≡ checkOf (readItems Plain (sealedPart body)) → plain.Yes ≡ plainBody body signature
     unfolding plainBody
-    plain-yes f = by-yes (readBody body signature) (readItems Plain (sealedPart body)) e f
+    plain-yes f = rw (told (readBody body signature) e .2, told (readItems Plain (sealedPart body)) f .2)
 
     pub plain-no : {r : Refusal} → Refused r ≡ checkOf (readItems Plain (sealedPart body)) → plain.No ≡ plainBody body signature
     unfolding plainBody
-    plain-no f = by-no (readBody body signature) (readItems Plain (sealedPart body)) e f
+    plain-no f = rw (told (readBody body signature) e .2, refusal-told (readItems Plain (sealedPart body)) f)
 
     -- an accepted body has its footer
     pub accepted-long : 4 < length body

@@ -1,7 +1,7 @@
 -- What reading into lent rows comes to: a law for each way out of the code.
 -- Assumes nothing.
 use Prim.Native.Nat.{ℕ, _≤_, _<_}
-use mathlib.Core.Path.{_≡_, _∙_}
+use mathlib.Core.Path.{_≡_, ap, _∙_}
 use mathlib.Core.Bool.{and-false}
 use mathlib.Core.List.{List}
 use native.Mathlib.Omega.{arith}
@@ -18,6 +18,7 @@ use Rattle.body_check.specs.declared.Wanted.{Wanted}
 use Rattle.body_check.specs.declared.Wanted.the-variants.{Free, Exactly}
 use Rattle.body_check.specs.Reading.{Answer, accepted, rejected, readItems}
 use Rattle.body_check.specs.Answers.{checkOf}
+use Rattle.body_check.proofs.Checking.{told, refusal-told}
 use Rattle.body_check.specs.Total.{agreeing}
 use Rattle.rows_reader.specs.Lent.{Filled, RowsRead}
 use Rattle.rows_reader.specs.Private.{Fits}
@@ -36,9 +37,8 @@ same-answer e w = rw e w
 
 -- A refusal stays as it is, whatever is wanted.
 pub kept : (wanted : Wanted) (a : Answer) {x : Refusal} → Refused x ≡ checkOf a → agreeing wanted a ≡ rejected (x .number) (x .item)
-kept Free (rejected r i) {x} e = let f : _≡_ {A = Refusal} x (record { number = r; item = i }) = cc in rw f
-kept (Exactly n) (rejected r i) {x} e = let f : _≡_ {A = Refusal} x (record { number = r; item = i }) = cc in rw f
-kept wanted (accepted xs rows u q) e = let z : _≡_ {A = ℕ} 0 1 = cc in absurd (omega arith)
+kept Free a e = refusal-told a e
+kept (Exactly n) a e = rw (refusal-told a e)
 
 -- ---- a body that is accepted
 
@@ -53,36 +53,18 @@ pub record Agreed (a b : Answer) (m n u q : ℕ) : Type 0 where
 
 module _ (wanted : Wanted) (a : Answer) {m n u q : ℕ} (e : Accepted m n u q ≡ checkOf a) where
   pub agreed-free : wanted ≡ Free → Agreed a (agreeing wanted a) m n u q
-  agreed-free h = rw h (go a e)
-    where
-      go : (b : Answer) → Accepted m n u q ≡ checkOf b → Agreed b b m n u q
-      go (accepted xs rows v z) k =
-          let f : u ≡ v = cc in
-          let g : q ≡ z = cc in
-          record { xs = xs; rows = rows; reads = rw (f, g); agrees = rw (f, g); many = cc; used = cc }
-      go (rejected r i) k = let z : _≡_ {A = ℕ} 0 1 = cc in absurd (omega arith)
+  agreed-free h =
+      let t = told a e in
+      record { xs = t .0; rows = t .1; reads = t .2; agrees = rw h (t .2); many = t .3; used = t .4 }
 
   module _ {k : ℕ} (h : wanted ≡ Exactly k) where
     pub agreed-same : u ≡ k → Agreed a (agreeing wanted a) m n u q
-    agreed-same same = rw h (go a e)
-      where
-        go : (b : Answer) → Accepted m n u q ≡ checkOf b → Agreed b (agreeing (Exactly k) b) m n u q
-        go (accepted xs rows v z) l =
-            let f : u ≡ v = cc in
-            let g : q ≡ z = cc in
-            let s : v ≡ k = omega arith in
-            record { xs = xs; rows = rows; reads = rw (f, g); agrees = rw (eq-eqb v k s, f, g); many = cc; used = cc }
-        go (rejected r i) l = let z : _≡_ {A = ℕ} 0 1 = cc in absurd (omega arith)
+    agreed-same same =
+        let t = told a e in
+        record { xs = t .0; rows = t .1; reads = t .2; agrees = ap (agreeing wanted) (t .2) ∙ rw (h, eq-eqb u k same); many = t .3; used = t .4 }
 
     pub differs : (u ≡ k → ⊥) → agreeing wanted a ≡ rejected 20 0
-    differs other = rw h (go a e)
-      where
-        go : (b : Answer) → Accepted m n u q ≡ checkOf b → agreeing (Exactly k) b ≡ rejected 20 0
-        go (accepted xs rows v z) l =
-            let f : u ≡ v = cc in
-            let s : v ≡ k → ⊥ = λ g. other (f ∙ g) in
-            rw (ne-eqb v k s)
-        go (rejected r i) l = let z : _≡_ {A = ℕ} 0 1 = cc in absurd (omega arith)
+    differs other = rw (h, told a e .2, ne-eqb u k other)
 
 -- ---- the rows that are lent
 
