@@ -1,6 +1,6 @@
 -- What opening finds in a body: its items stand after the count, before the footer.
 -- Assumes nothing.
-use Prim.Native.Nat.{ℕ, zero, suc}
+use Prim.Native.Nat.{ℕ}
 use mathlib.Core.Path.{_≡_}
 use mathlib.Core.Bool.{Bool, true, false}
 use mathlib.Core.List.{List}
@@ -12,10 +12,11 @@ use Rattle.field.specs.Reading.{number}
 use Rattle.field.specs.declared.Form.the-variants.{Any}
 use Rattle.log_item.specs.declared.LogItem.{LogItem}
 use Rattle.log_item.specs.declared.EntryIndex.{EntryIndex}
-use Rattle.seal.specs.Seal.{sealedPart, sealCheck}
+use Rattle.seal.specs.Seal.{sealedPart}
 use Rattle.body_check.specs.Reading.{accepted, rejected, counted, items, count, readItems}
-use Rattle.body_check.specs.Body.{unless, readBody}
+use Rattle.body_check.specs.Body.{readBody}
 use Rattle.one_reading.proofs.Accepts.{of-accepted}
+use Rattle.one_reading.proofs.Bodies.{parts}
 use Rattle.one_reading.proofs.Listing.{sound-items}
 use Rattle.item_reader.specs.Reader.{placeOf, afterCount, openingOf}
 
@@ -39,12 +40,7 @@ module _ {xs : List LogItem} {rows : List EntryIndex} {u q : ℕ} where
   -- So they do in a body, before the footer.
   pub in-body : (body : List ℕ) (signature : ℕ) → readBody body signature ≡ accepted xs rows u q
       → items Any (sealedPart body) (length xs) 0 0 0 (afterCount (sealedPart body)) ≡ accepted xs rows u q
-  unfolding readBody
-  in-body body signature e = after-count (sealedPart body) (sealed (sealCheck body signature) e)
-    where
-      sealed : (n : ℕ) → unless n (readItems Any (sealedPart body)) ≡ accepted xs rows u q → readItems Any (sealedPart body) ≡ accepted xs rows u q
-      sealed zero c = c
-      sealed (suc n) c = let o : _≡_ {A = ℕ} 0 1 = cc in absurd (omega arith)
+  in-body body signature e = after-count (sealedPart body) (parts body signature e .1)
 
 -- What opening finds of a body that is accepted, and of one that is refused.
 pub opening-good : (body : List ℕ) (signature : ℕ) {xs : List LogItem} {rows : List EntryIndex} {u q : ℕ} → readBody body signature ≡ accepted xs rows u q
