@@ -77,10 +77,7 @@ use Rattle.item_reader.proofs.ItemReader.next.Code.Mir as body
 abbrev behind : Slot 2
 behind = plain (λ κs. T.the-row (namedLft 2 1 tt κs))
 
--- the machine value of a step, of an answer and of a refusal
-abbrev valS : Step → Val
-valS = LL.val S.the-type S′.the-laws
-
+-- the machine value of an answer and of a refusal
 abbrev valO : Next → Val
 valO = EL.val O.the-type O′.the-laws
 
