@@ -75,10 +75,6 @@ u64-ended s at e = go (leb (at + 8) (length s)) refl e
 
 -- ---- the words as sums of shifted bytes
 
--- a byte shifted to its place loses no bit
-exact : (bits k : ℕ) {b : ℕ} → b < 256 → 8 + k ≤ bits → (b * 2 ^ k) % 2 ^ bits ≡ b * 2 ^ k
-exact bits k h fits = shl-exact 8 k bits h fits
-
 pub big-endian-sum : (a b c d e f g h : ℕ) → a < 256 → b < 256 → c < 256 → d < 256 → e < 256 → f < 256 → g < 256
     → (a * 2 ^ 56) % 2 ^ 64 + (b * 2 ^ 48) % 2 ^ 64 + (c * 2 ^ 40) % 2 ^ 64 + (d * 2 ^ 32) % 2 ^ 64
     + (e * 2 ^ 24) % 2 ^ 64 + (f * 2 ^ 16) % 2 ^ 64 + (g * 2 ^ 8) % 2 ^ 64 + h
@@ -86,7 +82,7 @@ pub big-endian-sum : (a b c d e f g h : ℕ) → a < 256 → b < 256 → c < 256
 unfolding bigEndian
 big-endian-sum a b c d e f g h ha hb hc hd he hf hg =
     rw
-    (exact 64 56 ha (lit≤ tt), exact 64 48 hb (lit≤ tt), exact 64 40 hc (lit≤ tt), exact 64 32 hd (lit≤ tt), exact 64 24 he (lit≤ tt), exact 64 16 hf (lit≤ tt), exact 64 8 hg (lit≤ tt))
+    (shl-exact 8 56 64 ha (lit≤ tt), shl-exact 8 48 64 hb (lit≤ tt), shl-exact 8 40 64 hc (lit≤ tt), shl-exact 8 32 64 hd (lit≤ tt), shl-exact 8 24 64 he (lit≤ tt), shl-exact 8 16 64 hf (lit≤ tt), shl-exact 8 8 64 hg (lit≤ tt))
     (omega arith)
 
 pub little-endian-sum : (a b c d : ℕ) → b < 256 → c < 256 → d < 256
