@@ -1,14 +1,11 @@
 -- The lengths of what is written, where the spans lie in the store.
 -- Assumes nothing.
-use Prim.Native.Nat.{ℕ, zero, suc, _+_, _-_, _≤_, _<_}
-use mathlib.Core.Path.{_≡_, refl, sym, ap, _∙_}
-use mathlib.Core.Bool.{true, false, and-eq-true-iff}
+use Prim.Native.Nat.{ℕ, zero, suc, _+_, _-_}
+use mathlib.Core.Path.{_≡_, refl, ap, _∙_}
+use mathlib.Core.Bool.{true, and-eq-true-iff}
 use mathlib.Core.List.{List, _∷_, _++_}
 use native.Mathlib.Omega.{arith}
-use lib.Dec.{leb}
 use lib.ListN.{length, take, drop, length-append, length-take, length-drop}
-use borrow.Author.Tests.{lt-leb}
-use Rattle.words.proofs.Tests.{same-test}
 use Rattle.numbers.specs.Shortest.{shortest, spell}
 use Rattle.field.proofs.Inside.{inside-bound}
 use Rattle.field.specs.Prefix.{bytesOf}
@@ -27,13 +24,6 @@ use Rattle.log_item.specs.Bytes.{spanBytes, commandBytes, opBytes, entri
 use Rattle.field.specs.Prefix.{inside}
 use Rattle.log_item.specs.Refusing.{opInside, contentInside}
 use Rattle.log_item.specs.Private.{fitted, spanLength, opLength, itemContentLength, headLength}
-
--- The test for room.
-pub past-end : (all at len : ℕ) → all < at → false ≡ leb (at + len) all
-past-end all at len h = sym (lt-leb (at + len) all (omega arith))
-
-pub room-left : (all at len : ℕ) → at ≤ all → leb len (all - at) ≡ leb (at + len) all
-room-left all at len h = same-test len (all - at) (at + len) all (λ l. omega (arith, h, l)) (λ l. omega (arith, h, l))
 
 module _ (s : List ℕ) where
   pub part-length : (k : Span) → inside s k ≡ true → length (bytesOf s k) ≡ k .len

@@ -1,6 +1,6 @@
 -- `log_item::refusing::has_room` meets its contract.
 -- Assumes nothing.
-use Rattle.log_item.proofs.Lengths.{past-end, room-left}
+use Rattle.words.proofs.Tests.{past-end, room-left}
 use Rattle.log_item.proofs.refusing.has_room.Statement.{statement}
 use Rattle.log_item.proofs.refusing.has_room.Tie as tie
 
