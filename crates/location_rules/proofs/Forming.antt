@@ -1,7 +1,7 @@
--- Whether a table is well formed, incoming rows are taken and there are more than 64 rows, and the run of a fetch, by the ways through the functions that tell it from numbers.
+-- Whether a table is well formed, incoming rows are taken and there are more than 64 rows, by the ways through the functions that tell it from numbers.
 -- Assumes nothing.
-use mathlib.Core.Path.{_≡_, refl, sym, ap}
-use Prim.Native.Nat.{ℕ, _+_, _-_, _<_, _≤_, _^_, max}
+use mathlib.Core.Path.{_≡_, refl, sym}
+use Prim.Native.Nat.{ℕ, _+_, _-_, _<_, _≤_, _^_}
 use native.Mathlib.Nat.{pos-of-ne-zero}
 use native.Mathlib.Omega.{arith}
 use mathlib.Core.Bool.{Bool, true, false}
@@ -10,7 +10,6 @@ use borrow.Author.Tests.{le-leb, lt-leb}
 use Rattle.words.proofs.Tests.{same-test}
 use Rattle.location_rules.specs.declared.Table.{Table}
 use Rattle.location_rules.specs.Parts.{indexesFit, inReach, wellFormedBy, readyBy}
-use Rattle.location_rules.specs.Decisions.{noRun, fetched}
 
 -- indexes from first on, n of them
 module _ (first n : ℕ) where
@@ -56,12 +55,3 @@ module _ (wrong n first : ℕ) where
   pub is-ready : {r : Bool} → n ≤ wrong → r ≡ indexesFit first n → r ≡ readyBy wrong n first
   unfolding readyBy
   is-ready l e = rw (le-leb n wrong l) e
-
-module _ (good : Bool) (t : Table) (start end : ℕ) where
-  pub fetched-broken : good ≡ false → noRun 26 ≡ fetched good t (end - start)
-  unfolding fetched
-  fetched-broken e = rw e refl
-
-  pub fetched-run : {w : ℕ} → good ≡ true → w ≡ max start end → record { number = 0; place = t .count; len = w - start } ≡ fetched good t (end - start)
-  unfolding fetched
-  fetched-run e h = rw e (ap (λ (n : ℕ). record { number = 0; place = t .count; len = n }) (omega (arith, h)))

@@ -1,4 +1,2 @@
 pub mod Forming
-pub mod Overlaps
-pub mod Deciding
 pub mod Determined

@@ -1,10 +1,9 @@
--- What looks at no list of rows, only at how many there are and where the first of a wrong queue stands: indexes that fit, the 64 rows, a table well formed, incoming rows taken, the overlap.
+-- What looks at no list of rows, only at how many there are and where the first of a wrong queue stands: indexes that fit, the 64 rows, a table well formed, incoming rows taken.
 -- Assumes nothing.
-use Prim.Native.Nat.{ℕ, _+_, _-_, min}
-use mathlib.Core.Bool.{Bool, _&&_, cond}
-use lib.Dec.{leb, eqb}
+use Prim.Native.Nat.{ℕ, _+_}
+use mathlib.Core.Bool.{Bool, _&&_}
+use lib.Dec.{leb}
 use Rattle.location_rules.specs.declared.Table.{Table}
-use Rattle.location_rules.specs.declared.Overlap.{Overlap}
 
 -- the last of n indexes from first on is at most 2^64 - 1. An index is below 2^64, so that no rows always fit.
 abbrev pub indexesFit : ℕ → ℕ → Bool
@@ -21,14 +20,3 @@ wellFormedBy t n front back = leb (t .count) n && (leb (t .count) front && (leb 
 -- n incoming rows, of which the first that is not in the rewrite queue stands at wrong
 unfoldable pub readyBy : ℕ → ℕ → ℕ → Bool
 readyBy wrong n first = leb n wrong && indexesFit first n
-
--- the overlap of len rows from this row and that incoming row on
-abbrev pub overlapAt : ℕ → ℕ → ℕ → Overlap
-overlapAt place from len = cond (eqb len 0) (record { start = 0; end = 0; from = 0 }) (record { start = place; end = place + len; from = from })
-
--- how many rows overlap, of n from this row on and m incoming ones from that row on: as many as the shorter of what is left
-abbrev pub overlapRows : ℕ → ℕ → ℕ → ℕ → ℕ
-overlapRows place from n m = min (n - place) (m - from)
-
-unfoldable pub overlapOf : ℕ → ℕ → ℕ → ℕ → Overlap
-overlapOf place from n m = overlapAt place from (overlapRows place from n m)

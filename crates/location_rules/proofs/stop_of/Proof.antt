@@ -1,7 +1,7 @@
 -- `location_rules::stop_of` meets its contract: a law for each way out.
 -- Assumes nothing.
 use mathlib.Core.Path.{ap, sym}
-use Rattle.location_rules.specs.Decisions.{stopOf}
+use Rattle.location_rules.specs.Row.{stopOf}
 use borrow.Author.Needs.{needs}
 use Rattle.location_rules.proofs.stop_of.Statement.{statement}
 use Rattle.location_rules.proofs.stop_of.Tie as tie

@@ -5,16 +5,10 @@ use mathlib.Core.Path.{_≡_}
 use mathlib.Core.Bool.{Bool, false, not, cond}
 use mathlib.Core.List.{List}
 use lib.Dec.{ltb, eqb}
 use Rattle.location_rules.specs.declared.Table.{Table}
 use Rattle.location_rules.specs.declared.Gate.{Gate}
-use Rattle.location_rules.specs.declared.Stop.{Stop}
-use Rattle.location_rules.specs.declared.Rewritten.{Rewritten}
-use Rattle.location_rules.specs.declared.Fetched.{Fetched}
-
--- with a gate a stop is a row whose file number exceeds the gate; without one, a row in the append queue
-abbrev pub stopOf : Gate → Stop
-stopOf Gate.None = Stop.Append
-stopOf (Gate.Given gate) = Stop.Above gate
+use Rattle.location_answers.specs.declared.Rewritten.{Rewritten}
+use Rattle.location_answers.specs.declared.Fetched.{Fetched}
 
 -- a gate is given and the overlap begins before the rewritten count
 abbrev pub early : Gate → ℕ → ℕ → Bool

@@ -1,9 +1,9 @@
--- `location_rules::overlap_of` meets its contract: a law for each way out.
+-- `location_answers::overlap_of` meets its contract: a law for each way out.
 -- Assumes nothing.
-use Rattle.location_rules.proofs.Overlaps.{past-rows, from-first, past-incoming, from-own}
+use Rattle.location_answers.proofs.Overlaps.{past-rows, from-first, past-incoming, from-own}
 use borrow.Author.Needs.{needs}
-use Rattle.location_rules.proofs.overlap_of.Statement.{statement}
-use Rattle.location_rules.proofs.overlap_of.Tie as tie
+use Rattle.location_answers.proofs.overlap_of.Statement.{statement}
+use Rattle.location_answers.proofs.overlap_of.Tie as tie
 
 overlap-at-requires : tie.Need-overlap-at-requires
 overlap-at-requires c κs = search needs

@@ -1,11 +1,11 @@
--- `location_rules::run_from` meets its contract: a law for each way out.
+-- `location_answers::run_from` meets its contract: a law for each way out.
 -- Assumes nothing.
 use mathlib.Core.Path.{_∙_}
 use borrow.Author.Tests.{not-true, not-false}
-use Rattle.location_rules.proofs.Forming.{fetched-broken, fetched-run}
+use Rattle.location_answers.proofs.Deciding.{fetched-broken, fetched-run}
 use borrow.Author.Needs.{needs}
-use Rattle.location_rules.proofs.run_from.Statement.{statement}
-use Rattle.location_rules.proofs.run_from.Tie as tie
+use Rattle.location_answers.proofs.run_from.Statement.{statement}
+use Rattle.location_answers.proofs.run_from.Tie as tie
 
 no-run-requires : tie.Need-no-run-requires
 no-run-requires c κs = search needs

@@ -7,8 +7,8 @@ use mathlib.Core.Bool.{Bool, true, false}
 use native.Mathlib.Nat.{le-refl, pos-of-ne-zero}
 use lib.Dec.{eqb}
 use borrow.Author.Tests.{eq-eqb, ne-eqb, eqb-false}
-use Rattle.location_rules.specs.declared.Overlap.{Overlap}
-use Rattle.location_rules.specs.Parts.{overlapAt, overlapRows, overlapOf}
+use Rattle.location_answers.specs.declared.Overlap.{Overlap}
+use Rattle.location_answers.specs.Overlaps.{overlapAt, overlapRows, overlapOf}
 
 module _ (start from len : ℕ) where
   pub none-at : len ≡ 0 → record { start = 0; end = 0; from = 0 } ≡ overlapAt start from len

@@ -1,9 +1,9 @@
--- `location_rules::overlap_at` meets its contract: a law for each way out.
+-- `location_answers::overlap_at` meets its contract: a law for each way out.
 -- Assumes nothing.
-use Rattle.location_rules.proofs.Overlaps.{none-at, some-at}
+use Rattle.location_answers.proofs.Overlaps.{none-at, some-at}
 use borrow.Author.Needs.{needs}
-use Rattle.location_rules.proofs.overlap_at.Statement.{statement}
-use Rattle.location_rules.proofs.overlap_at.Tie as tie
+use Rattle.location_answers.proofs.overlap_at.Statement.{statement}
+use Rattle.location_answers.proofs.overlap_at.Tie as tie
 
 returns : tie.Need-returns
 returns c = none-at _ _ _ (c .if1 .taken)

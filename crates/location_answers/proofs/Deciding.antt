@@ -1,15 +1,15 @@
--- The answer of a rewrite by the ways through `decide`: a law for each.
+-- The answer of a rewrite by the ways through `decide`, and of a fetch by those through `run_from`: a law for each.
 -- Assumes nothing.
-use mathlib.Core.Path.{_≡_, _∙_}
+use mathlib.Core.Path.{_≡_, refl, ap, _∙_}
 use Prim.Native.Nat.{ℕ, _-_, _<_, _≤_, max}
 use native.Mathlib.Omega.{arith}
 use mathlib.Core.Bool.{Bool, true, false}
 use lib.Dec.{eqb}
 use borrow.Author.Tests.{lt-ltb, le-ltb, eq-eqb, ne-eqb}
 use Rattle.location_rules.specs.declared.Table.{Table}
 use Rattle.location_rules.specs.declared.Gate.{Gate}
-use Rattle.location_rules.specs.declared.Rewritten.{Rewritten}
-use Rattle.location_rules.specs.Decisions.{unchanged, answered}
+use Rattle.location_answers.specs.declared.Rewritten.{Rewritten}
+use Rattle.location_answers.specs.Decisions.{unchanged, answered, noRun, fetched}
 
 -- the answer where rows are replaced
 abbrev moved : ℕ → ℕ → Rewritten
@@ -52,3 +52,12 @@ module _ (good ready : Bool) (t : Table) (start stop end : ℕ) (gate : Gate) (r
       pub ungated : {c w : ℕ} → gate ≡ Gate.None → w ≡ max start end → c ≡ max w (t .count) → r ≡ moved (w - start) c → r ≡ answered good ready t start (stop - start) (end - start) gate
       unfolding answered
       ungated k y z e = e ∙ (rw (g, h, some, le-ltb (t .count) start b, k) (same-moved (omega (arith, y)) (omega (arith, y, z))))
+
+module _ (good : Bool) (t : Table) (start end : ℕ) where
+  pub fetched-broken : good ≡ false → noRun 26 ≡ fetched good t (end - start)
+  unfolding fetched
+  fetched-broken e = rw e refl
+
+  pub fetched-run : {w : ℕ} → good ≡ true → w ≡ max start end → record { number = 0; place = t .count; len = w - start } ≡ fetched good t (end - start)
+  unfolding fetched
+  fetched-run e h = rw e (ap (λ (n : ℕ). record { number = 0; place = t .count; len = n }) (omega (arith, h)))

@@ -1,10 +1,10 @@
--- `location_rules::decide` meets its contract: a law for each way out.
+-- `location_answers::decide` meets its contract: a law for each way out.
 -- Assumes nothing.
 use borrow.Author.Tests.{not-true, not-false}
-use Rattle.location_rules.proofs.Deciding.{broken, unready, apart, starts-late, starts-early, gated, ungated}
+use Rattle.location_answers.proofs.Deciding.{broken, unready, apart, starts-late, starts-early, gated, ungated}
 use borrow.Author.Needs.{needs}
-use Rattle.location_rules.proofs.decide.Statement.{statement}
-use Rattle.location_rules.proofs.decide.Tie as tie
+use Rattle.location_answers.proofs.decide.Statement.{statement}
+use Rattle.location_answers.proofs.decide.Tie as tie
 
 unchanged-requires : tie.Need-unchanged-requires
 unchanged-requires c κs = search needs

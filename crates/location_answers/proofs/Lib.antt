@@ -1,0 +1,3 @@
+pub mod Overlaps
+pub mod Deciding
+pub mod Determined
