@@ -11,7 +11,7 @@ same-length : tie.Need-same-length
 same-length c = search needs
 
 returns : tie.Need-returns
-returns c = record { answer = c .before .before .encode .ensures .0; written = c .before .before .encode .ensures .1 }
+returns c = c .before .before .encode .ensures
 
 pub encode-unchecked-spec : {M : Type 1} → statement M
 encode-unchecked-spec = tie.close (tie.spec encode-requires same-length returns)
