@@ -9,6 +9,7 @@ use native.Mathlib.Nat.{add-sub-cancel-left}
 use borrow.Author.Tests.{le-leb, lt-leb, eq-eqb, ne-eqb, leb-true}
 use lib.Dec.{leb, eqb}
 use lib.ListN.{length, take, drop}
+use Rattle.refusal.proofs.First.{other-answer}
 use Rattle.pipe_log.specs.declared.LogQueue.the-variants.{Append, Rewrite}
 use Rattle.pipe_log.specs.declared.Location.{Location}
 use Rattle.seal.specs.Seal.{blockCheck, contentLength}
@@ -65,11 +66,7 @@ module _ (row : Location) (block : List ℕ) where
 
   pub view-none : {n : ℕ} → n ≡ viewCheck row block → (n ≡ 0 → ⊥) → [] ≡ viewed (viewCheck row block) row block
   unfolding viewed
-  view-none {n} e h = go (viewCheck row block) e
-    where
-      go : (m : ℕ) → n ≡ m → [] ≡ viewed m row block
-      go zero f = absurd (h f)
-      go (suc m) f = refl
+  view-none {n} e h = rw (← e) (other-answer n _ _ h)
 
   pub view-some : {n : ℕ} → n ≡ viewCheck row block → n ≡ 0
       → take (row .«entry_offset» + row .«entry_len» - row .«entry_offset») (drop (row .«entry_offset») block) ≡ viewed (viewCheck row block) row block

@@ -1,12 +1,12 @@
 -- What a step over an item comes to: a law for each way out of the code.
 -- Assumes nothing.
-use Prim.Native.Nat.{ℕ, zero, suc, _+_, _-_, _≤_, _<_}
+use Prim.Native.Nat.{ℕ, _+_, _-_, _≤_, _<_}
 use mathlib.Core.Path.{_≡_, refl, sym, _∙_}
 use mathlib.Core.List.{List}
 use native.Mathlib.Omega.{arith}
 use borrow.Author.Tests.{lt-ltb, le-ltb}
 use lib.ListN.{length, take}
-use Rattle.refusal.specs.First.{ifNone}
+use Rattle.refusal.proofs.First.{other-answer}
 use Rattle.refusal.specs.declared.Refusal.{Refusal}
 use Rattle.field.specs.Got.{Got, got, refused, done, bind}
 use Rattle.log_item.specs.Entries.{entriesOf}
@@ -63,14 +63,10 @@ module _ (s : List ℕ) (e t p : ℕ) where
 
 -- ---- the step
 
-other-step : (n : ℕ) (s r : Step) → (n ≡ 0 → ⊥) → r ≡ ifNone n s r
-other-step zero s r h = absurd (h refl)
-other-step (suc n) s r h = refl
-
 module _ (body : List ℕ) (at total used item count : ℕ) (refusal : Refusal) where
   pub step-refused : {s : Step} → (refusal .number ≡ 0 → ⊥) → s ≡ stayed at total used item (next.Refused refusal) → s ≡ stepOf body at total used item count refusal
   unfolding stepOf
-  step-refused h e = e ∙ other-step (refusal .number) _ _ h
+  step-refused h e = e ∙ other-answer (refusal .number) _ _ h
 
   module _ (none : refusal .number ≡ 0) where
     pub step-end : {s : Step} → count ≤ item → s ≡ stayed at total used item next.End → s ≡ stepOf body at total used item count refusal

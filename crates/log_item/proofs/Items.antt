@@ -23,7 +23,8 @@ use Rattle.log_item.specs.declared.Head.the-variants as head
 use Rattle.log_item.specs.declared.ItemWrote.the-variants as item
 use Rattle.log_item.proofs.Stores.{room-first, room-then, room-told, short-told, stored-then}
 use Rattle.log_item.proofs.Lengths.{head-length}
-use Rattle.log_item.proofs.Refusals.{other-answer, content-inside, content-allowed}
+use Rattle.log_item.proofs.Refusals.{content-inside, content-allowed}
+use Rattle.refusal.proofs.First.{other-answer}
 use Rattle.log_item.proofs.Tails.{size-over, size-fine}
 
 module _ (s : List ℕ) (checked : Bool) (used rows : ℕ) (x : LogItem) {n : ℕ} (e : n ≡ contentRefusal s checked used rows (x .content)) where

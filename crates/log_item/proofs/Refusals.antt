@@ -7,7 +7,7 @@ use mathlib.Core.List.{List}
 use native.Mathlib.Omega.{arith}
 use lib.Dec.{ltb, leb}
 use borrow.Author.Tests.{ltb-false, lt-ltb, le-ltb, leb-true, le-leb, lt-leb}
-use Rattle.refusal.specs.First.{firstOf, ifNone}
+use Rattle.refusal.specs.First.{firstOf}
 use Rattle.log_item.specs.Entries.{entriesOf}
 use Rattle.field.specs.Prefix.{prefix, begins, bytesOf}
 use Rattle.field.specs.declared.Span.{Span}
@@ -30,11 +30,6 @@ untaken false r rest e = (refl, e)
 pub taken : (t : Bool) (r rest : ℕ) → cond t rest (suc r) ≡ 0 → (t ≡ true) × (rest ≡ 0)
 taken true r rest e = (refl, e)
 taken false r rest e = absurd (omega arith)
-
--- Where there is a refusal, the second answer.
-pub other-answer : {A : Type 0} (r : ℕ) (a b : A) → (r ≡ 0 → ⊥) → b ≡ ifNone r a b
-other-answer zero a b h = absurd (h refl)
-other-answer (suc r) a b h = refl
 
 -- 17 in the sum of the first index and the count.
 index-17 : (n i : ℕ) → i ≤ 18446744073709551615 → 18446744073709551616 < i + n → 17 ≡ indexRefusal n i

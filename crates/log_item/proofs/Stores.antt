@@ -16,7 +16,8 @@ use Rattle.words.proofs.Writing.{room-for}
 use Rattle.log_item.specs.declared.PartWrote.the-variants as part
 use Rattle.log_item.specs.Written.{pieceRefusal, PieceWritten}
 use Rattle.log_item.specs.Private.{Room, Stored, fitted}
-use Rattle.log_item.proofs.Refusals.{taken, other-answer, all-inside}
+use Rattle.log_item.proofs.Refusals.{taken, all-inside}
+use Rattle.refusal.proofs.First.{other-answer}
 
 sets-append : (bs cs out : List ℕ) (at : ℕ) → sets out at (bs ++ cs) ≡ sets (sets out at bs) (at + length bs) cs
 sets-append [] cs out at = let e : at ≡ at + 0 = omega arith in ap (λ (k : ℕ). sets out k cs) e

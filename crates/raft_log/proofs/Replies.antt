@@ -1,10 +1,11 @@
 -- What is replied for each answer of a call: a law for each way out of the code.
 -- Assumes nothing.
-use Prim.Native.Nat.{ℕ, zero, suc}
-use mathlib.Core.Path.{_≡_, refl, sym, ap, _∙_}
+use Prim.Native.Nat.{ℕ}
+use mathlib.Core.Path.{_≡_, sym, ap, _∙_}
 use mathlib.Core.List.{List, [], _∷_}
 use borrow.Author.Tests.{ne-eqb}
 use lib.ListN.{getD}
+use Rattle.refusal.proofs.First.{other-answer}
 use Rattle.refusal.specs.declared.Refusal.{Refusal}
 use Rattle.field.specs.declared.Span.{Span}
 use Rattle.log_item.specs.declared.LogItem.{LogItem}
@@ -19,7 +20,7 @@ use Rattle.entry_view.specs.View.{entryCheck}
 use Rattle.body_check.specs.declared.BodyCheck.{BodyCheck}
 use Rattle.body_check.specs.declared.BodyCheck.the-variants as check
 use Rattle.item_row.specs.Reply.{Reply, reply}
-use Rattle.raft_log.specs.Answers.{batchReply, queueCheck, viewReply, viewOf, markWord, statusReply, rowStatus}
+use Rattle.raft_log.specs.Answers.{batchReply, queueCheck, viewOf, markWord, statusReply, rowStatus}
 
 -- A mark and its group are replied.
 pub marked : {s : StatusRead} {group m : ℕ} {mark : AtomicGroupStatus} → s ≡ Mark group mark → m ≡ markWord mark → reply 0 (m ∷ group ∷ []) ≡ statusReply s
@@ -57,15 +58,11 @@ module _ (queue long offset len : ℕ) (append rewrite : List ℕ) where
 
 -- ---- a location row
 
-view-no : (n offset len : ℕ) → (n ≡ 0 → ⊥) → reply n (0 ∷ 0 ∷ []) ≡ viewReply n offset len
-view-no zero offset len h = absurd (h refl)
-view-no (suc n) offset len h = refl
-
 module _ (row append rewrite : List ℕ) {n : ℕ}
     (e : n ≡ queueCheck (getD row 0 0) (getD row 3 0) (getD row 4 0) (getD row 5 0) append rewrite) where
   pub view-refused : (n ≡ 0 → ⊥) → reply n (0 ∷ 0 ∷ []) ≡ viewOf row append rewrite
   unfolding viewOf
-  view-refused h = rw (← e) (view-no n (getD row 4 0) (getD row 5 0) h)
+  view-refused h = rw (← e) (other-answer n _ _ h)
 
   pub view-good : n ≡ 0 → reply n (getD row 4 0 ∷ getD row 5 0 ∷ []) ≡ viewOf row append rewrite
   unfolding viewOf

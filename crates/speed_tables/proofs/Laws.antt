@@ -1,9 +1,10 @@
 -- A body written again: a law for each way out of the code.
 -- Assumes nothing.
-use Prim.Native.Nat.{ℕ, zero, suc}
+use Prim.Native.Nat.{ℕ}
 use mathlib.Core.Path.{_≡_, refl, ap, _∙_}
 use mathlib.Core.Bool.{false}
 use mathlib.Core.List.{List, [], _∷_}
+use Rattle.refusal.proofs.First.{other-answer}
 use Rattle.refusal.specs.First.{ifNone}
 use Rattle.list_writer.specs.declared.Encoded.{Encoded}
 use Rattle.list_writer.specs.Bytes.{bodyBytes}
@@ -13,13 +14,8 @@ use Rattle.item_batch.specs.Writing.{BodyWritten, listed, tableLengths}
 use Rattle.item_row.specs.Reply.{reply}
 use Rattle.speed_tables.specs.Again.{again, lengthReply, WrittenAgain}
 
-module _ (e : Encoded) where
-  refused-is : (n : ℕ) → (n ≡ 0 → ⊥) → encoded n 0 0 ≡ ifNone n e (encoded n 0 0)
-  refused-is zero h = absurd (h refl)
-  refused-is (suc n) h = refl
-
-  fine-is : {n : ℕ} → n ≡ 0 → e ≡ ifNone n e (encoded n 0 0)
-  fine-is h = rw h
+fine-is : (e : Encoded) {n : ℕ} → n ≡ 0 → e ≡ ifNone n e (encoded n 0 0)
+fine-is e h = rw h
 
 module _ (body : List ℕ) (signature : ℕ) (out : List ℕ) where
   answered : (t : LogItemBatch) {later : List ℕ} {e : Encoded} → e ≡ again t body out
@@ -34,7 +30,7 @@ module _ (body : List ℕ) (signature : ℕ) (out : List ℕ) where
     -- The reading is refused, and nothing is written.
     pub rewrite-refused : (t .refusal .number ≡ 0 → ⊥) → WrittenAgain m body signature out (reply (t .refusal .number) (0 ∷ [])) out
     unfolding laid
-    rewrite-refused h = rw (← known) (answered t (refused-is _ _ h) refl)
+    rewrite-refused h = rw (← known) (answered t (other-answer (t .refusal .number) _ _ h) refl)
 
     -- The table is written, or its writing refused.
     pub rewrite-done : {e : Encoded} {later : List ℕ} → t .refusal .number ≡ 0 → BodyWritten false t body signature out e later
