@@ -16,7 +16,9 @@ find_oracle() {
     if [ -z "$built" ]; then
         [ -x "$sources/build.sh" ] || fail "missing: the oracle (the real crate's code behind lines).
 There is no build.sh in $sources.
-Give its folder with --oracle FOLDER, or one that is built with --built FOLDER (it holds debug/oracle and release/oracle)."
+It is raft-engine 0.4.2's sources, unchanged, with the glue that docs/DIFFERENCES.md names, and a build.sh that builds them.
+Give its folder with --oracle FOLDER, or one that is built with --built FOLDER (it holds debug/oracle and release/oracle, and for bench
+and make_replay the folder crate)."
         command -v cargo >/dev/null || fail "missing: cargo and rustc, with which the oracle and the comparison are built"
         sources=$(absolute "$sources") || exit 2
         built=$root/target/oracle
@@ -43,39 +45,22 @@ build_library() {
 
 # Sets speed to the folder of libspeed.a and libspeed_tables.a. To be called before find_library, which may set RAFT_LOG_LIB.
 find_speed() {
-    speed=${RAFT_LOG_LIB:-$root/target/staticlib}
-    mkdir -p "$speed"
-    speed=$(absolute "$speed") || exit 2
     for name in speed speed_tables; do
         [ -n "${RAFT_LOG_LIB:-}" ] || build_library "$name"
+    done
+    speed=$(absolute "${RAFT_LOG_LIB:-$root/target/staticlib}") || exit 2
+    for name in speed speed_tables; do
         [ -f "$speed/lib$name.a" ] || fail "missing: $speed/lib$name.a"
     done
 }
 
-# Sets RAFT_LOG_LIB to the folder of libraft_log.a, in which every function of raft_log.h is found: one that the library does not have is a
-# stub there, which the comparison counts as missing.
+# Sets RAFT_LOG_LIB to the folder of libraft_log.a.
 find_library() {
     if [ -z "${RAFT_LOG_LIB:-}" ]; then
         build_library raft_log
         RAFT_LOG_LIB=$root/target/staticlib
     fi
     RAFT_LOG_LIB=$(absolute "$RAFT_LOG_LIB") || exit 2
-    library=$RAFT_LOG_LIB/libraft_log.a
-    [ -f "$library" ] || fail "missing: $library"
-    header=${RAFT_LOG_INCLUDE:-$root}/raft_log.h
-    [ -f "$header" ] || fail "missing: $header"
-    mkdir -p "$root/target"
-    nm "$library" 2>/dev/null | awk '$2 == "T" { print $3 }' | sort -u >"$root/target/have.txt"
-    grep -o 'raft_log_[a-z0-9_]*(' "$header" | tr -d '(' | sort -u | comm -23 - "$root/target/have.txt" >"$root/target/lack.txt"
-    if [ -s "$root/target/lack.txt" ]; then
-        mkdir -p "$root/target/stubs"
-        sed 's/.*/unsigned &(void) { return 4294967295u; }/' "$root/target/lack.txt" >"$root/target/stubs/stubs.c"
-        cc -c "$root/target/stubs/stubs.c" -o "$root/target/stubs/stubs.o"
-        cp "$library" "$root/target/stubs/libraft_log.a"
-        chmod u+w "$root/target/stubs/libraft_log.a"
-        ar r "$root/target/stubs/libraft_log.a" "$root/target/stubs/stubs.o" 2>/dev/null
-        RAFT_LOG_LIB=$root/target/stubs
-        sed 's/^/not in the library: /' "$root/target/lack.txt"
-    fi
+    [ -f "$RAFT_LOG_LIB/libraft_log.a" ] || fail "missing: $RAFT_LOG_LIB/libraft_log.a"
     export RAFT_LOG_LIB
 }

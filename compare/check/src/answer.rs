@@ -54,8 +54,6 @@ pub enum Answer {
         at: u64,
         len: u64,
     },
-    /// The library has no such function: a stub of compare/run answered.
-    Absent,
     /// Memory that is to stay as it was did not.
     #[cfg_attr(not(feature = "library"), allow(dead_code))]
     Touched(String),

@@ -14,8 +14,6 @@ pub struct Outcome {
     pub listed: Vec<Id>,
     /// Functions of the library that gave the model's answer.
     pub library: Vec<&'static str>,
-    /// Functions that the library does not have.
-    pub absent: Vec<&'static str>,
     /// What is wrong, where something is.
     pub wrong: Option<String>,
 }
@@ -26,7 +24,7 @@ pub fn judge(case: &Case, asked: &[Case], lines: &[String], library: Option<&mut
         Answer::Refused { number, .. } => *number,
         _ => 0,
     };
-    let mut outcome = Outcome { refusal, equal: 0, listed: vec![], library: vec![], absent: vec![], wrong: None };
+    let mut outcome = Outcome { refusal, equal: 0, listed: vec![], library: vec![], wrong: None };
     for (part, line) in asked.iter().zip(lines) {
         match against_oracle(part, line) {
             Ok(None) => outcome.equal += 1,
@@ -71,9 +69,9 @@ fn against_oracle(case: &Case, line: &str) -> Result<Option<Id>, String> {
 /// Each answer that the library gave has to be the model's.
 fn against_model(model: &[Part], library: &[Part], outcome: &mut Outcome) {
     for (name, got) in library {
-        let wanted = model.iter().find(|part| part.0 == *name);
+        let function = name.split(',').next();
+        let wanted = model.iter().find(|part| Some(part.0) == function);
         match wanted {
-            Some(_) if *got == Answer::Absent => outcome.absent.push(name),
             Some((_, wanted)) if wanted == got => outcome.library.push(name),
             _ => {
                 let wanted = cut(&format!("{:?}", wanted.map(|part| &part.1)), 3000);

@@ -13,9 +13,6 @@ use raft_log::lent::{self, ENTRY_WORDS, ITEM_WORDS, LOCATION_WORDS};
 const NOISE: u64 = 0x5A5A_0123_4567_89AB;
 const FILL: u8 = 0xA5;
 
-/// What a stub returns.
-const ABSENT: u32 = u32::MAX;
-
 pub struct Library;
 
 impl Library {
@@ -26,49 +23,55 @@ impl Library {
 
 impl Subject for Library {
     fn answers(&mut self, case: &Case) -> Vec<Part> {
-        match case {
-            Case::ReadNumber { bytes, at } => {
-                let mut answer = [NOISE; 2];
-                let number = lent::read_number(bytes, *at, &mut answer);
-                vec![("read_number", replied(number, 0, &answer, || Answer::Number { value: answer[0], next: answer[1] }))]
-            }
-            Case::WriteNumber { number, at, room } => vec![("write_number", write_number(*number, *at, *room))],
-            Case::Checksum { bytes } => vec![("crc32", Answer::Sum(lent::crc32(bytes)))],
-            Case::Header { bytes } => {
-                let mut answer = [NOISE; 3];
-                let number = lent::read_header(bytes, &mut answer);
-                let header = || Answer::Header { offset: answer[0], len: answer[1], compression: answer[2] };
-                vec![("read_header", replied(number, 0, &answer, header))]
-            }
-            Case::Item { total, bytes } => item(*total, bytes),
-            Case::Body { signature, bytes, seal, room } => body(sign(*signature), bytes, *seal, *room),
-            Case::Batch { signature, bytes, room } => vec![("read_batch", whole(bytes, sign(*signature), *room))],
-            Case::WriteBody { signature, list, checked, room } => {
-                let room = written_room(*room, &writing::body_len(list, *checked, LIMITS));
-                let call = |rows: lent::Rows, out: &mut [u8], answer: &mut [u64; 2]| {
-                    lent::write_body(rows, sign(*signature), *checked, out, answer)
-                };
-                vec![("write_body", written(list, room, call))]
-            }
-            Case::WriteBatch { signature, list, content, checked, room } => {
-                let room = written_room(*room, &writing::batch_len(list, content.len(), *checked, LIMITS));
-                let call = |rows: lent::Rows, out: &mut [u8], answer: &mut [u64; 2]| {
-                    lent::write_batch(rows, content, sign(*signature), *checked, out, answer)
-                };
-                vec![("write_batch", written(list, room, call))]
-            }
-            Case::Block { length, bytes } => {
-                let row = Row { queue: 0, file: NOISE, place: NOISE, block: *length, offset: 0, len: length.saturating_sub(4) };
-                vec![("entry_view", view(&row, bytes, &[]))]
-            }
-            Case::View { row, append, rewrite } => vec![("entry_view", view(row, append, rewrite))],
-            Case::Status { item, store } => vec![("status", status(item, store))],
-            Case::Rewrite { table, gate, first, incoming } => vec![("rewrite", rewrite(table, *gate, *first, incoming))],
-            Case::Fetch { table, gate } => {
-                let mut answer = [NOISE; 2];
-                let number = lent::fetch(&location_words(&table.rows), at(table), *gate, &mut answer);
-                vec![("fetch", replied(number, 0, &answer, || Answer::Run { at: answer[0], len: answer[1] }))]
-            }
+        let mut parts = lent_answers(case);
+        parts.extend(crate::typed::answers(case));
+        parts
+    }
+}
+
+fn lent_answers(case: &Case) -> Vec<Part> {
+    match case {
+        Case::ReadNumber { bytes, at } => {
+            let mut answer = [NOISE; 2];
+            let number = lent::read_number(bytes, *at, &mut answer);
+            vec![("read_number", replied(number, 0, &answer, || Answer::Number { value: answer[0], next: answer[1] }))]
+        }
+        Case::WriteNumber { number, at, room } => vec![("write_number", write_number(*number, *at, *room))],
+        Case::Checksum { bytes } => vec![("crc32", Answer::Sum(lent::crc32(bytes)))],
+        Case::Header { bytes } => {
+            let mut answer = [NOISE; 3];
+            let number = lent::read_header(bytes, &mut answer);
+            let header = || Answer::Header { offset: answer[0], len: answer[1], compression: answer[2] };
+            vec![("read_header", replied(number, 0, &answer, header))]
+        }
+        Case::Item { total, bytes } => item(*total, bytes),
+        Case::Body { signature, bytes, seal, room } => body(sign(*signature), bytes, *seal, *room),
+        Case::Batch { signature, bytes, room } => vec![("read_batch", whole(bytes, sign(*signature), *room))],
+        Case::WriteBody { signature, list, checked, room } => {
+            let room = written_room(*room, &writing::body_len(list, *checked, LIMITS));
+            let call =
+                |rows: lent::Rows, out: &mut [u8], answer: &mut [u64; 2]| lent::write_body(rows, sign(*signature), *checked, out, answer);
+            vec![("write_body", written(list, room, call))]
+        }
+        Case::WriteBatch { signature, list, content, checked, room } => {
+            let room = written_room(*room, &writing::batch_len(list, content.len(), *checked, LIMITS));
+            let call = |rows: lent::Rows, out: &mut [u8], answer: &mut [u64; 2]| {
+                lent::write_batch(rows, content, sign(*signature), *checked, out, answer)
+            };
+            vec![("write_batch", written(list, room, call))]
+        }
+        Case::Block { length, bytes } => {
+            let row = Row { queue: 0, file: NOISE, place: NOISE, block: *length, offset: 0, len: length.saturating_sub(4) };
+            vec![("entry_view", view(&row, bytes, &[]))]
+        }
+        Case::View { row, append, rewrite } => vec![("entry_view", view(row, append, rewrite))],
+        Case::Status { item, store } => vec![("status", status(item, store))],
+        Case::Rewrite { table, gate, first, incoming } => vec![("rewrite", rewrite(table, *gate, *first, incoming))],
+        Case::Fetch { table, gate } => {
+            let mut answer = [NOISE; 2];
+            let words = [location_words(&table.rows), vec![1; 5]].concat();
+            let number = lent::fetch(&words, at(table), *gate, &mut answer);
+            vec![("fetch", replied(number, 0, &answer, || Answer::Run { at: answer[0], len: answer[1] }))]
         }
     }
 }
@@ -76,10 +79,10 @@ impl Subject for Library {
 /// The answer, or the refusal, after which all words but those of the item are 0.
 fn replied(number: u32, item_words: usize, answer: &[u64], done: impl FnOnce() -> Answer) -> Answer {
     if number == 0 {
+        if answer[..item_words].iter().any(|word| *word != 0) {
+            return Answer::Touched(format!("accepted, and the answer's words are {answer:?}"));
+        }
         return done();
-    }
-    if number == ABSENT {
-        return Answer::Absent;
     }
     if answer[item_words..].iter().any(|word| *word != 0) {
         return Answer::Touched(format!("refused {number}, and the answer's words are {answer:?}"));
@@ -303,12 +306,10 @@ fn rewrite(table: &Locations, gate: Option<u64>, first: u64, incoming: &[Row]) -
     let before = location_words(&table.rows);
     let mut words = [before.as_slice(), &[NOISE; 4]].concat();
     let mut answer = [NOISE; 2];
-    let number = lent::rewrite(&mut words, at(table), &location_words(incoming), first, gate, &mut answer);
+    let incoming = [location_words(incoming), vec![1; 5]].concat();
+    let number = lent::rewrite(&mut words, at(table), &incoming, first, gate, &mut answer);
     if words[before.len()..] != [NOISE; 4] || (number != 0 && words[..before.len()] != before) {
         return touched("a location row");
-    }
-    if number == ABSENT {
-        return Answer::Absent;
     }
     if number != 0 {
         if answer != [0, table.count] {

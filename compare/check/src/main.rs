@@ -16,6 +16,8 @@ mod run;
 mod shrink;
 mod subject;
 mod text;
+#[cfg(feature = "library")]
+mod typed;
 
 use run::Plan;
 use std::path::Path;

@@ -2,7 +2,7 @@
 use crate::case::KINDS;
 use crate::judge::Outcome;
 use crate::listed::LABELS;
-use std::collections::{BTreeMap, BTreeSet};
+use std::collections::BTreeMap;
 
 #[derive(Clone, Default)]
 pub struct Row {
@@ -33,7 +33,6 @@ pub struct Counts {
     pub labels: Vec<u64>,
     pub refusals: BTreeMap<u32, u64>,
     pub functions: BTreeMap<&'static str, u64>,
-    pub absent: BTreeSet<&'static str>,
 }
 
 impl Counts {
@@ -43,7 +42,6 @@ impl Counts {
             labels: vec![0; LABELS.len()],
             refusals: BTreeMap::new(),
             functions: BTreeMap::new(),
-            absent: BTreeSet::new(),
         }
     }
 
@@ -66,7 +64,6 @@ impl Counts {
         for name in &outcome.library {
             *self.functions.entry(name).or_default() += 1;
         }
-        self.absent.extend(&outcome.absent);
     }
 
     pub fn join(&mut self, other: &Counts) {
@@ -82,7 +79,6 @@ impl Counts {
         for (name, more) in &other.functions {
             *self.functions.entry(name).or_default() += more;
         }
-        self.absent.extend(&other.absent);
     }
 
     pub fn cases(&self) -> u64 {
@@ -107,9 +103,6 @@ impl Counts {
             println!("\nanswers of the library held to document 01, by function:");
             for (name, count) in &self.functions {
                 println!("  raft_log_{name:24} {:>10}", grouped(*count));
-            }
-            for name in &self.absent {
-                println!("not compared: raft_log_{name} (the library does not have it)");
             }
         }
         println!("\nlisted differences met (docs/DIFFERENCES.md):");

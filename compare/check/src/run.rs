@@ -53,10 +53,15 @@ impl Plan {
     /// The case of a number: a short input, or a random one with a stream of its own.
     pub fn case(&self, number: u64) -> Case {
         let short = self.short();
+        let always = make::short::always();
+        if number < short.min(always) {
+            return make::short::member(number);
+        }
         if number < short {
-            let all = make::short::len();
-            let start = if short == all { 0 } else { Rng::new(self.seed, u64::MAX).below(all) };
-            return make::short::member((start as u128 + number as u128 * all as u128 / short as u128) as u64 % all);
+            let (all, some) = (make::short::len() - always, short - always);
+            let start = if some == all { 0 } else { Rng::new(self.seed, u64::MAX).below(all) };
+            let place = (start as u128 + (number - always) as u128 * all as u128 / some as u128) as u64 % all;
+            return make::short::member(always + place);
         }
         make::case(&mut Rng::new(self.seed, number))
     }

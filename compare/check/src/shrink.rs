@@ -142,18 +142,15 @@ fn fetch(table: &Locations, gate: u64) -> Vec<Case> {
     out
 }
 
+/// The parts of so many that are left out: all of them, halves, quarters, down to each by itself.
+fn parts(len: usize) -> impl Iterator<Item = (usize, usize)> {
+    let sizes = std::iter::successors(Some(len), |size| Some(size / 2)).take_while(|size| *size > 0);
+    sizes.flat_map(move |size| (0..len / size).map(move |k| (k * size, (k + 1) * size)))
+}
+
 /// The bytes with a part left out, then with a byte made smaller.
 fn shorter(bytes: &[u8]) -> Vec<Vec<u8>> {
-    let mut out = vec![];
-    let mut part = bytes.len();
-    while part > 0 {
-        let mut at = 0;
-        while at + part <= bytes.len() {
-            out.push([&bytes[..at], &bytes[at + part..]].concat());
-            at += part;
-        }
-        part /= 2;
-    }
+    let mut out: Vec<Vec<u8>> = parts(bytes.len()).map(|(from, to)| [&bytes[..from], &bytes[to..]].concat()).collect();
     for at in 0..bytes.len() {
         for b in [0, 1, bytes[at] / 2] {
             if b < bytes[at] {
@@ -168,17 +165,8 @@ fn shorter(bytes: &[u8]) -> Vec<Vec<u8>> {
 
 /// The list with items left out (their entry lengths with them), then with smaller fields.
 fn shorter_lists(list: &List) -> Vec<List> {
-    let mut out = vec![];
     let n = list.items.len();
-    let mut part = n;
-    while part > 0 {
-        let mut at = 0;
-        while at + part <= n {
-            out.push(without(list, at, at + part));
-            at += part;
-        }
-        part /= 2;
-    }
+    let mut out: Vec<List> = parts(n).map(|(from, to)| without(list, from, to)).collect();
     for k in 0..n {
         let mut less = list.clone();
         less.items[k].group = 0;
@@ -239,12 +227,9 @@ fn smaller_row(row: &Row) -> Vec<Row> {
 }
 
 fn shorter_rows(rows: &[Row]) -> Vec<Vec<Row>> {
-    let mut out = vec![];
-    for k in 0..rows.len() {
-        let mut less = rows.to_vec();
-        less.remove(k);
-        out.push(less);
-    }
+    let mut out: Vec<Vec<Row>> = parts(rows.len()).map(|(from, to)| [&rows[..from], &rows[to..]].concat()).collect();
+    out.push(rows.iter().map(|row| Row { file: 0, place: 0, block: 0, offset: 0, len: 0, ..*row }).collect());
+    out.push(rows.iter().map(|row| Row { place: 0, block: 0, offset: 0, len: 0, ..*row }).collect());
     for k in 0..rows.len() {
         for row in smaller_row(&rows[k]) {
             let mut less = rows.to_vec();

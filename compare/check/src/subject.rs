@@ -90,7 +90,7 @@ fn number(bytes: &[u8], at: usize) -> Answer {
 fn write_number(n: u64, at: usize, room: usize) -> Answer {
     let mut out = vec![];
     numbers::write(n, &mut out);
-    if at + out.len() > room {
+    if at.saturating_add(out.len()) > room {
         return Answer::Refused { number: 21, item: 0 };
     }
     Answer::Bytes(out)

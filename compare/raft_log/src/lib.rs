@@ -16,7 +16,7 @@ pub mod lent;
 pub mod sys;
 mod types;
 
-use lent::{ENTRY_WORDS, ITEM_WORDS, LOCATION_WORDS};
+use lent::{ENTRIES_MAX, ENTRY_WORDS, ITEMS_MAX, ITEM_WORDS, LOCATION_WORDS};
 use std::ops::Range;
 pub use types::{Command, Content, Entry, Item, Location, Queue, Reason, Refusal, Span, Status};
 
@@ -111,16 +111,19 @@ pub fn is_plain(body: &[u8], signature: u32) -> Result<bool, Refusal> {
     Ok(answer[1] == 1)
 }
 
-/// Rows for as many items and entries as were counted.
-fn rows_for(counts: &Counts) -> (Vec<u64>, Vec<u64>) {
-    (vec![0; ITEM_WORDS * counts.items], vec![0; ENTRY_WORDS * counts.entries])
+/// Rows for the most items and entries that a body has.
+fn most_rows() -> (Vec<u64>, Vec<u64>) {
+    (vec![0; ITEM_WORDS * ITEMS_MAX], vec![0; ENTRY_WORDS * ENTRIES_MAX])
 }
 
-fn table(counts: &Counts, items: &[u64], entries: &[u64]) -> Table {
+/// The table of an answer and the rows that it was read into.
+fn table(answer: &[u64], items: &[u64], entries: &[u64]) -> Table {
+    let counts = counts(answer);
     let item = |row: &[u64]| Item::from_row(row.try_into().unwrap()).expect("rows that were read are items");
+    let entry = |row: &[u64]| Entry::from_row(row.try_into().unwrap());
     Table {
-        items: items.chunks_exact(ITEM_WORDS).map(item).collect(),
-        entries: entries.chunks_exact(ENTRY_WORDS).map(|row| Entry::from_row(row.try_into().unwrap())).collect(),
+        items: items[..ITEM_WORDS * counts.items].chunks_exact(ITEM_WORDS).map(item).collect(),
+        entries: entries[..ENTRY_WORDS * counts.entries].chunks_exact(ENTRY_WORDS).map(entry).collect(),
         total: counts.total,
         next: counts.next,
     }
@@ -128,24 +131,19 @@ fn table(counts: &Counts, items: &[u64], entries: &[u64]) -> Table {
 
 /// The items of a body with its footer, under a signature (0 where there is none).
 pub fn read_body(body: &[u8], signature: u32) -> Result<Table, Refusal> {
-    let counted = check_body(body, signature)?;
-    let (mut items, mut entries) = rows_for(&counted);
+    let (mut items, mut entries) = most_rows();
     let mut answer = [0; 5];
     result(lent::read_body(body, signature, &mut items, &mut entries, &mut answer), answer[0])?;
-    Ok(table(&counted, &items, &entries))
+    Ok(table(&answer, &items, &entries))
 }
 
 /// A whole batch. Bytes past its length are not looked at.
 pub fn read_batch(data: &[u8], signature: u32) -> Result<Batch, Refusal> {
-    let most = Counts { items: 256, entries: 1024, total: 0, next: 0 };
-    let (mut items, mut entries) = rows_for(&most);
+    let (mut items, mut entries) = most_rows();
     let mut answer = [0; 9];
     result(lent::read_batch(data, signature, &mut items, &mut entries, &mut answer), answer[0])?;
-    let counted = counts(&answer[..5]);
-    items.truncate(ITEM_WORDS * counted.items);
-    entries.truncate(ENTRY_WORDS * counted.entries);
     let span = |k: usize| Span { at: answer[k] as usize, len: answer[k + 1] as usize };
-    Ok(Batch { table: table(&counted, &items, &entries), body: span(5), block: span(7) })
+    Ok(Batch { table: table(&answer, &items, &entries), body: span(5), block: span(7) })
 }
 
 /// The longest body, in bytes.
@@ -236,7 +234,8 @@ pub fn status(item: &Item, store: &[u8]) -> Result<Option<(u64, Status)>, Refusa
     })
 }
 
-/// A table of locations: consecutive indexes from `first_index` on, of which the first `rewritten` are in the rewrite queue.
+/// A table of locations: consecutive indexes from `first_index` on, of which the first `rewritten` are in the rewrite queue. More than 64
+/// rows, of the table or incoming, are refused with [`Reason::OutputShort`].
 #[derive(Clone, Debug, PartialEq, Eq)]
 pub struct Locations {
     pub first_index: u64,

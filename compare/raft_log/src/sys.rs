@@ -1,6 +1,5 @@
 //! The functions of libraft_log.a as raft_log.h declares them. A slice goes as a pointer and a length: of bytes, or of 64-bit words where
 //! rows are lent. No pointer may be null, also where the length is 0; that holds for every slice of Rust's.
-#![allow(clippy::missing_safety_doc)]
 
 extern "C" {
     pub fn raft_log_crc32(data: *const u8, data_len: usize) -> u32;

@@ -88,3 +88,21 @@ pub fn status(item: &Item, bytes: &[u8]) -> Result<Option<(u64, u8)>, Refusal> {
     }
     Ok(Some((item.group, value[0])))
 }
+
+#[cfg(test)]
+mod tests {
+    use super::*;
+
+    #[test]
+    fn documents_headers() {
+        let read = |len: u64, offset: u64| {
+            let bytes = [(len * 256).to_be_bytes(), offset.to_be_bytes()].concat();
+            header(&bytes).map(|h| (h.offset, h.len)).map_err(|refusal| refusal.number)
+        };
+        assert_eq!(read(21, 16), Ok((16, 21)));
+        assert_eq!(read(16, 16), Ok((16, 16)));
+        assert_eq!(read(10, 12), Err(3));
+        assert_eq!(read(20, 15), Err(4));
+        assert_eq!(reading::unsealed(&[], 0).map_err(|refusal| refusal.number), Err(5));
+    }
+}

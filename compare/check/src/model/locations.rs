@@ -23,7 +23,7 @@ fn past_the_end(first: u64, rows: usize) -> bool {
     rows > 0 && first as u128 + rows as u128 - 1 > u64::MAX as u128
 }
 
-pub fn well_formed(table: &Locations) -> bool {
+fn well_formed(table: &Locations) -> bool {
     table.count <= table.rows.len() as u64
         && !past_the_end(table.first, table.rows.len())
         && table.rows.iter().enumerate().all(|(k, row)| row.queue == u64::from((k as u64) < table.count))

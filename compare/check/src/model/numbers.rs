@@ -11,7 +11,7 @@ pub enum Number {
 pub fn read(bytes: &[u8], at: usize) -> Number {
     let mut value = 0;
     for k in 0..10 {
-        let Some(&b) = bytes.get(at + k) else {
+        let Some(&b) = bytes.get(at.saturating_add(k)) else {
             return Number::Eof;
         };
         if k == 9 && b > 1 {

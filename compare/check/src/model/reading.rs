@@ -20,18 +20,20 @@ pub struct Reader<'a> {
     pub count: u64,
     pub largest_count: u64,
     pub first: u64,
+    /// Where the last number that was read begins.
+    pub last: usize,
 }
 
 impl<'a> Reader<'a> {
     pub fn new(bytes: &'a [u8], total: u64, limits: Limits) -> Self {
-        Reader { bytes, at: 0, total, entries: vec![], limits, plain: true, largest: false, count: 0, largest_count: 0, first: 0 }
+        Reader { bytes, at: 0, total, entries: vec![], limits, plain: true, largest: false, count: 0, largest_count: 0, first: 0, last: 0 }
     }
 
     fn number(&mut self) -> Result<u64, Stop> {
         match numbers::read(self.bytes, self.at) {
             Number::Done { value, next } => {
                 self.plain &= (next - self.at) as u64 == numbers::length(value);
-                self.at = next;
+                (self.last, self.at) = (self.at, next);
                 Ok(value)
             }
             Number::Eof => Err(Stop(7, Note::Eof)),
@@ -167,5 +169,37 @@ pub fn body(bytes: &[u8], signature: u32, limits: Limits) -> Body {
             let read = reader.items();
             Body { read, plain: reader.plain }
         }
+    }
+}
+
+#[cfg(test)]
+mod tests {
+    use super::*;
+    use crate::model::LIMITS;
+
+    /// An item and its entries as index, offset, length; or a refusal's number.
+    type Read = Result<(Item, Vec<(u64, u64, u64)>), u32>;
+
+    fn read(bytes: &[u8]) -> Read {
+        let mut reader = Reader::new(bytes, 0, LIMITS);
+        let item = reader.item().map_err(|stop| stop.0)?;
+        Ok((item, reader.entries.iter().map(|e| (e.index, e.offset, e.len)).collect()))
+    }
+
+    #[test]
+    fn documents_examples() {
+        let content = |bytes: &[u8]| read(bytes).map(|(item, _)| (item.group, item.content));
+        let span = |at, len| Span { at, len };
+        assert_eq!(content(&[5, 2, 2, 0xac, 2]), Ok((5, Content::Compact { index: 300 })));
+        assert_eq!(content(&[2, 3, 1, 1, 0x6b, 1, 0x76]), Ok((2, Content::Put { key: span(4, 1), value: span(6, 1) })));
+        assert_eq!(content(&[2, 3, 0, 1, 0x6b, 1, 0x76]), Err(12));
+        let entries = |bytes: &[u8]| read(bytes).map(|(_, entries)| entries);
+        assert_eq!(entries(&[3, 1, 3, 10, 4, 4, 10]), Ok(vec![(10, 0, 4), (11, 4, 0), (12, 4, 6)]));
+        assert_eq!(entries(&[3, 1, 2, 10, 4, 3]), Err(15));
+        assert_eq!(entries(&[3, 1, 1, 10, 0xff, 0xff, 0xff, 0xff, 0x0f]), Ok(vec![(10, 0, 4_294_967_295)]));
+        assert_eq!(entries(&[3, 1, 1, 10, 0x80, 0x80, 0x80, 0x80, 0x10]), Err(16));
+        let from_last = |count: u8, tails: &[u8]| [&[3, 1, count], [0xff; 9].as_slice(), &[1], tails].concat();
+        assert_eq!(entries(&from_last(1, &[4])), Ok(vec![(u64::MAX, 0, 4)]));
+        assert_eq!(entries(&from_last(2, &[4, 4])), Err(17));
     }
 }
