@@ -117,7 +117,7 @@ const END: &str = "<!-- end of the figures -->";
 
 const TEXT: &str = "# Speed
 
-Ratios to the real crate, raft-engine 0.4.2, on the same inputs in one run of `compare/bench`; above 1 is faster. Both are built for release. Each figure is the median over rounds in which both run in turn: warm, the same call again and again; cold, one call after 32 MiB of other memory were read. Output buffers are not cleared in between. The library is called through its C functions, one call for each number, checksum or body; the Rust is called in the same way, and its batch is dropped in the time that is taken.
+Ratios to the real crate, raft-engine 0.4.2, on the same inputs in one run of `compare/bench`; above 1 is faster. Both are built for release. Each figure is the median over rounds in which both run in turn: warm, the same call again and again; cold, one call after 32 MiB of other memory were read. Output buffers are not cleared in between. The times of numbers are for 1,024 of them, one call each. The library is called through its C functions, one call for each number, checksum or body; the Rust is called in the same way, and its batch is dropped in the time that is taken.
 
 ![Ratios](speed.svg)
 
