@@ -3,8 +3,8 @@
 use mathlib.Core.Path.{_≡_, sym, _∙_}
 use denote.Ref.{now}
 use Rattle.one_answer.specs.OneAnswer.{OneAnswer}
-use Rattle.field.specs.declared.Span.{Span}
-use Rattle.body_check.specs.declared.BodyCheck.{BodyCheck}
+use Rattle.log_item.specs.declared.Span.{Span}
+use Rattle.log_batch.specs.declared.BodyCheck.{BodyCheck}
 use Rattle.batch_rows.specs.declared.BatchCheck.{BatchCheck}
 use Rattle.batch_rows.proofs.read_rows.Kinds as read-rows-kinds
 use Rattle.batch_rows.proofs.read_rows.Reads as read-rows-reads

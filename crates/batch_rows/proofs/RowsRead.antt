@@ -4,15 +4,15 @@ use Prim.Native.Nat.{ℕ, _-_}
 use mathlib.Core.Path.{_≡_, refl, sym, ap}
 use mathlib.Core.List.{List}
 use lib.ListN.{take, drop}
-use Rattle.field.specs.Got.{got, refused}
-use Rattle.field.specs.declared.Form.the-variants.{Any}
-use Rattle.field.specs.declared.Span.{Span}
+use Rattle.log_item.specs.Got.{got, refused}
+use Rattle.log_item.specs.declared.Form.the-variants.{Any}
+use Rattle.log_item.specs.declared.Span.{Span}
 use Rattle.refusal.specs.declared.Refusal.{Refusal}
-use Rattle.body_check.specs.declared.BodyCheck.{BodyCheck}
-use Rattle.body_check.specs.declared.BodyCheck.the-variants.{Accepted, Refused}
-use Rattle.body_check.specs.declared.Wanted.the-variants.{Exactly}
-use Rattle.body_check.specs.Reading.{readItems}
-use Rattle.body_check.specs.Total.{agreeing}
+use Rattle.log_batch.specs.declared.BodyCheck.{BodyCheck}
+use Rattle.log_batch.specs.declared.BodyCheck.the-variants.{Accepted, Refused}
+use Rattle.log_batch.specs.declared.Wanted.the-variants.{Exactly}
+use Rattle.log_batch.specs.Reading.{readItems}
+use Rattle.log_batch.specs.Total.{agreeing}
 use Rattle.rows_reader.specs.Lent.{RowsRead}
 use Rattle.rows_reader.proofs.Reading.{left, same-answer}
 use Rattle.log_batch.specs.declared.LogBatch.{LogBatch}

@@ -15,11 +15,11 @@ use Rattle.list_writer.specs.Answers.{MeasuredWritten}
 use Rattle.item_row.specs.Row.{itemRowCount}
 use Rattle.rows_writer.specs.Rows.{rowItems, entryLengths, measureRows, rowsBytes}
 use Rattle.rows_writer.proofs.RowsMeasuring.{rows-accepted}
-use Rattle.batch_front.specs.Front.{batchEncoded, FrontWritten}
+use Rattle.log_batch.specs.Front.{batchEncoded, FrontWritten}
 use Rattle.log_batch.specs.Written.{framed}
 use Rattle.batch_rows.specs.Rows.{rowsEncoded, BatchWrittenFrom}
-use Rattle.batch_front.proofs.Planning.{body-small, planned}
-use Rattle.batch_front.proofs.Fronts.{begun-told, begun-left, body-behind}
+use Rattle.log_batch.proofs.Planning.{body-small, planned}
+use Rattle.log_batch.proofs.Fronts.{begun-told, begun-left, body-behind}
 use Rattle.log_batch.proofs.Framing.{batch-stored}
 
 module _ (s : List ℕ) (checked : Bool) (items entries : List ℕ) {m : Measured} (same : m ≡ measureRows s checked items entries) where

@@ -5,9 +5,9 @@ use mathlib.Core.Path.{_≡_}
 use mathlib.Core.Bool.{Bool}
 use mathlib.Core.List.{List}
 use lib.ListN.{length}
-use Rattle.field.specs.declared.Span.{Span}
-use Rattle.body_check.specs.declared.BodyCheck.{BodyCheck}
-use Rattle.body_check.specs.declared.BodyCheck.the-variants.{Accepted, Refused}
+use Rattle.log_item.specs.declared.Span.{Span}
+use Rattle.log_batch.specs.declared.BodyCheck.{BodyCheck}
+use Rattle.log_batch.specs.declared.BodyCheck.the-variants.{Accepted, Refused}
 use Rattle.list_writer.specs.declared.Encoded.{Encoded}
 use Rattle.list_writer.specs.Answers.{laid}
 use Rattle.item_row.specs.Row.{itemRowCount}
@@ -15,7 +15,7 @@ use Rattle.rows_writer.specs.Rows.{measureRows, rowsBytes}
 use Rattle.rows_reader.specs.Lent.{RowsRead}
 use Rattle.batch_rows.specs.declared.BatchCheck.{BatchCheck}
 use Rattle.log_batch.specs.Batch.{frontBatch, batchAnswer, bodyPlace, blockPlace}
-use Rattle.batch_front.specs.Front.{batchEncoded}
+use Rattle.log_batch.specs.Front.{batchEncoded}
 use Rattle.log_batch.specs.Written.{framed}
 
 -- a place, stated where the batch is accepted

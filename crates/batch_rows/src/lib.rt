@@ -1,11 +1,11 @@
 // Whole batches, read into rows of words that the caller lends, and written from them.
 ghost use mathlib.Core.Path.{_≡_};
 ghost use Rattle.batch_rows.specs.Rows.{placeIf, BatchReadInto, BatchWrittenFrom};
-use body_check::BodyCheck;
-use body_check::Wanted;
 use list_writer::Encoded;
+use log_batch::BodyCheck;
 use log_batch::HeaderRead;
 use log_batch::LogBatch;
+use log_batch::Wanted;
 use log_item::Span;
 use refusal::Refusal;
 
@@ -38,7 +38,7 @@ pub fn read_rows(buf: &[u8], signature: u32, items: &mut [u64], entries: &mut [u
                 at: LogBatch::HEADER_LEN,
                 len: offset - LogBatch::HEADER_LEN,
             };
-            let wanted = Wanted::Exactly(seal::content_len(block.len));
+            let wanted = Wanted::Exactly(log_batch::content_len(block.len));
             let check = rows_reader::read_items(&buf[offset..end], wanted, items, entries);
             with_places(check, body, block)
         }
@@ -78,7 +78,7 @@ pub fn write_rows(
     ensures { λ r. ⌜ BatchWrittenFrom checked (now (items .entry)) (now (entries .entry)) (now (store .entry)) (now (content .entry)) signature (now (out .entry)) r (now (out .exit)) ⌝ }
 {
     let m = rows_writer::measure_rows(items, entries, store, checked);
-    let r = batch_front::begin(m, items.len() / 7, content, out);
+    let r = log_batch::begin(m, items.len() / 7, content, out);
     if r.length == 0 {
         return r;
     }

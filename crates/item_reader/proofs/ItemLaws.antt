@@ -8,12 +8,12 @@ use borrow.Author.Tests.{lt-ltb, le-ltb}
 use lib.ListN.{length, take}
 use Rattle.refusal.proofs.First.{other-answer}
 use Rattle.refusal.specs.declared.Refusal.{Refusal}
-use Rattle.field.specs.Got.{Got, got, refused, done, bind}
+use Rattle.log_item.specs.Got.{Got, got, refused, done, bind}
 use Rattle.log_item.specs.Entries.{entriesOf}
 use Rattle.log_item.specs.Reading.{head, tails}
 use Rattle.log_item.specs.Answers.{passTails}
 use Rattle.log_item.proofs.Passing.{totalOf, total-pass, rows-length}
-use Rattle.field.specs.declared.Form.the-variants.{Any}
+use Rattle.log_item.specs.declared.Form.the-variants.{Any}
 use Rattle.log_item.specs.declared.LogItem.{LogItem}
 use Rattle.log_item.specs.declared.EntryIndex.{EntryIndex}
 use Rattle.log_item.specs.declared.EntryIndexes.{EntryIndexes}

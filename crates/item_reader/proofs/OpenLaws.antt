@@ -5,13 +5,13 @@ use mathlib.Core.Path.{_≡_}
 use mathlib.Core.List.{List}
 use lib.ListN.{length, take}
 use Rattle.refusal.specs.declared.Refusal.{Refusal}
-use Rattle.field.specs.Got.{got, refused}
-use Rattle.field.specs.Reading.{number}
-use Rattle.field.specs.declared.Form.the-variants.{Any}
-use Rattle.body_check.specs.declared.BodyCheck.the-variants.{Accepted, Refused}
-use Rattle.body_check.specs.Body.{readBody}
-use Rattle.body_check.specs.Answers.{checkOf}
-use Rattle.body_check.proofs.Checking.{told, refusal-told}
+use Rattle.log_item.specs.Got.{got, refused}
+use Rattle.log_item.specs.Pieces.{number}
+use Rattle.log_item.specs.declared.Form.the-variants.{Any}
+use Rattle.log_batch.specs.declared.BodyCheck.the-variants.{Accepted, Refused}
+use Rattle.log_batch.specs.Body.{readBody}
+use Rattle.log_batch.specs.Answers.{checkOf}
+use Rattle.log_batch.proofs.Checking.{told, refusal-told}
 use Rattle.item_reader.specs.declared.Opening.{Opening}
 use Rattle.item_reader.specs.Reader.{afterCount, openingOf}
 

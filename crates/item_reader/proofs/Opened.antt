@@ -7,17 +7,17 @@ use mathlib.Core.List.{List}
 use native.Mathlib.Omega.{arith}
 use lib.Dec.{leb}
 use lib.ListN.{length}
-use Rattle.field.specs.Got.{Got, got, refused, done, bind, _>>_, _else_}
-use Rattle.field.specs.Reading.{number}
-use Rattle.field.specs.declared.Form.the-variants.{Any}
+use Rattle.log_item.specs.Got.{Got, got, refused, done, bind, _>>_, _else_}
+use Rattle.log_item.specs.Pieces.{number}
+use Rattle.log_item.specs.declared.Form.the-variants.{Any}
 use Rattle.log_item.specs.declared.LogItem.{LogItem}
 use Rattle.log_item.specs.declared.EntryIndex.{EntryIndex}
-use Rattle.seal.specs.Seal.{sealedPart}
-use Rattle.body_check.specs.Reading.{accepted, rejected, counted, items, count, readItems}
-use Rattle.body_check.specs.Body.{readBody}
-use Rattle.one_reading.proofs.Accepts.{of-accepted}
-use Rattle.one_reading.proofs.Bodies.{parts}
-use Rattle.one_reading.proofs.Listing.{sound-items}
+use Rattle.log_batch.specs.Seal.{sealedPart}
+use Rattle.log_batch.specs.Reading.{accepted, rejected, counted, items, count, readItems}
+use Rattle.log_batch.specs.Body.{readBody}
+use Rattle.log_batch.proofs.Accepts.{of-accepted}
+use Rattle.log_batch.proofs.Bodies.{parts}
+use Rattle.log_batch.proofs.Listing.{sound-items}
 use Rattle.item_reader.specs.Reader.{placeOf, afterCount, openingOf}
 
 module _ {xs : List LogItem} {rows : List EntryIndex} {u q : ℕ} where

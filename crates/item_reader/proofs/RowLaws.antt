@@ -4,10 +4,10 @@ use Prim.Native.Nat.{ℕ, zero, suc, _+_, _-_, _%_, _^_}
 use mathlib.Core.Path.{_≡_, refl}
 use mathlib.Core.List.{List}
 use lib.ListN.{length, take}
-use Rattle.field.specs.Got.{got, refused}
+use Rattle.log_item.specs.Got.{got, refused}
 use Rattle.log_item.specs.Reading.{tail}
-use Rattle.field.specs.declared.Form.the-variants.{Any}
-use Rattle.seal.specs.Seal.{sealedPart}
+use Rattle.log_item.specs.declared.Form.the-variants.{Any}
+use Rattle.log_batch.specs.Seal.{sealedPart}
 use Rattle.item_reader.specs.declared.EntryRows.{EntryRows}
 use Rattle.item_reader.specs.declared.RowRead.{RowRead}
 use Rattle.item_reader.specs.declared.RowRead.the-variants as row

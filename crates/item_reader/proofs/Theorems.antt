@@ -7,15 +7,15 @@ use native.Mathlib.Nat.{zero-add}
 use native.Mathlib.Omega.{arith}
 use lib.ListN.{length, take, getD}
 use denote.Ref.{RefT, now}
-use Rattle.field.specs.declared.Span.{Span}
+use Rattle.log_item.specs.declared.Span.{Span}
 use Rattle.log_item.specs.declared.LogItem.{LogItem}
 use Rattle.log_item.specs.declared.EntryIndex.{EntryIndex}
-use Rattle.seal.specs.Seal.{sealedPart}
-use Rattle.body_check.specs.Reading.{accepted, rejected}
-use Rattle.body_check.specs.Body.{readBody}
+use Rattle.log_batch.specs.Seal.{sealedPart}
+use Rattle.log_batch.specs.Reading.{accepted, rejected}
+use Rattle.log_batch.specs.Body.{readBody}
 use Rattle.log_item.specs.Blank.{blankItem}
-use Rattle.item_batch.specs.Table.{tableOf}
-use Rattle.item_batch.proofs.Tables.{in-table}
+use Rattle.log_batch.specs.Table.{tableOf}
+use Rattle.log_batch.proofs.Tables.{in-table}
 use Rattle.item_reader.specs.declared.EntryRows.{EntryRows}
 use Rattle.item_reader.specs.declared.ItemReader.{ItemReader}
 use Rattle.item_reader.specs.declared.Next.the-variants as next
@@ -23,7 +23,7 @@ use Rattle.item_reader.specs.Reader.{atFirst, afterCount, opened, afterC
 use Rattle.item_reader.specs.Stepping.{StepsThrough}
 use Rattle.item_reader.specs.Stepping as go
 use Rattle.item_reader.proofs.Opened.{in-body, opening-good, opening-bad}
-use Rattle.body_check.proofs.Refusing.{refusal-some}
+use Rattle.log_batch.proofs.NonZero.{refusal-some}
 use Rattle.item_reader.proofs.Through as through
 
 module _ (body : RefT (List ℕ)) (signature : ℕ) where

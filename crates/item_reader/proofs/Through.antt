@@ -6,15 +6,15 @@ use mathlib.Core.List.{List, [], _∷_, _++_}
 use native.Mathlib.Omega.{arith}
 use lib.ListN.{length}
 use denote.Ref.{now}
-use Rattle.field.specs.Got.{Got, got, refused, done, bind}
+use Rattle.log_item.specs.Got.{Got, got, refused, done, bind}
 use Rattle.log_item.specs.Entries.{entriesOf}
 use Rattle.log_item.specs.Reading.{Read, head, tail, tails, oneItem}
-use Rattle.field.specs.declared.Form.the-variants.{Any}
+use Rattle.log_item.specs.declared.Form.the-variants.{Any}
 use Rattle.log_item.specs.declared.LogItem.{LogItem}
 use Rattle.log_item.specs.declared.EntryIndex.{EntryIndex}
 use Rattle.log_item.proofs.Known.{head-known}
-use Rattle.seal.specs.Seal.{sealedPart}
-use Rattle.body_check.specs.Reading.{Answer, accepted, rejected, before, inFront, items}
+use Rattle.log_batch.specs.Seal.{sealedPart}
+use Rattle.log_batch.specs.Reading.{Answer, accepted, rejected, before, inFront, items}
 use Rattle.item_reader.specs.declared.EntryRows.{EntryRows}
 use Rattle.item_reader.specs.declared.ItemReader.{ItemReader}
 use Rattle.item_reader.specs.declared.Next.{Next}

@@ -1,6 +1,6 @@
 -- What the contracts of private functions cite: this file serves them alone, and no public contract.
 -- Assumes nothing.
-use Rattle.field.specs.Got.{Got, got, refused}
+use Rattle.log_item.specs.Got.{Got, got, refused}
 use Rattle.item_reader.specs.Steps.{FoundItem}
 use Rattle.item_reader.specs.declared.Stepped.{Stepped}
 use Rattle.item_reader.specs.declared.Stepped.the-variants as stepped

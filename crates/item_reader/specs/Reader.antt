@@ -4,12 +4,12 @@ use Prim.Native.Nat.{ℕ, zero, suc}
 use mathlib.Core.List.{List}
 use lib.ListN.{length}
 use denote.Ref.{RefT, now}
-use Rattle.field.specs.Got.{Got, got, refused}
-use Rattle.field.specs.Reading.{number}
-use Rattle.field.specs.declared.Form.the-variants.{Any}
-use Rattle.body_check.specs.Reading.{Answer, accepted, rejected}
-use Rattle.seal.specs.Seal.{sealedPart}
-use Rattle.body_check.specs.Body.{readBody}
+use Rattle.log_item.specs.Got.{Got, got, refused}
+use Rattle.log_item.specs.Pieces.{number}
+use Rattle.log_item.specs.declared.Form.the-variants.{Any}
+use Rattle.log_batch.specs.Reading.{Answer, accepted, rejected}
+use Rattle.log_batch.specs.Seal.{sealedPart}
+use Rattle.log_batch.specs.Body.{readBody}
 use Rattle.item_reader.specs.declared.ItemReader.{ItemReader}
 use Rattle.item_reader.specs.declared.Next.{Next}
 use Rattle.item_reader.specs.declared.Opening.{Opening}

@@ -2,9 +2,9 @@
 -- Assumes nothing.
 use Prim.Native.Nat.{ℕ, zero, suc, _+_, _-_, _%_, _^_}
 use mathlib.Core.List.{List}
-use Rattle.field.specs.Got.{Got, got, refused}
+use Rattle.log_item.specs.Got.{Got, got, refused}
 use Rattle.log_item.specs.Reading.{tail}
-use Rattle.field.specs.declared.Form.the-variants.{Any}
+use Rattle.log_item.specs.declared.Form.the-variants.{Any}
 use Rattle.item_reader.specs.declared.EntryRows.{EntryRows}
 use Rattle.item_reader.specs.declared.RowRead.{RowRead}
 use Rattle.item_reader.specs.declared.RowRead.the-variants as row

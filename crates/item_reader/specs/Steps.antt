@@ -7,13 +7,13 @@ use lib.Dec.{ltb}
 use lib.ListN.{length}
 use Rattle.refusal.specs.First.{ifNone}
 use Rattle.refusal.specs.declared.Refusal.{Refusal}
-use Rattle.field.specs.Got.{Got, got, refused, Reading, done, here, _>>=_}
+use Rattle.log_item.specs.Got.{Got, got, refused, Reading, done, here, _>>=_}
 use Rattle.log_item.specs.Entries.{entriesOf}
 use Rattle.log_item.specs.Reading.{head, tails}
-use Rattle.field.specs.declared.Form.the-variants.{Any}
+use Rattle.log_item.specs.declared.Form.the-variants.{Any}
 use Rattle.log_item.specs.declared.LogItem.{LogItem}
 use Rattle.log_item.specs.declared.EntryIndexes.{EntryIndexes}
-use Rattle.seal.specs.Seal.{sealedPart}
+use Rattle.log_batch.specs.Seal.{sealedPart}
 use Rattle.item_reader.specs.declared.EntryRows.{EntryRows}
 use Rattle.item_reader.specs.declared.Next.{Next}
 use Rattle.item_reader.specs.declared.Next.the-variants as next

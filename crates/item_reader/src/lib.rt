@@ -6,12 +6,13 @@
 // itself, so those are few and thin, and the work is done on the slice and numbers.
 ghost use mathlib.Core.Path.{_≡_};
 ghost use Prim.Native.Nat.{_-_};
-ghost use Rattle.seal.specs.Seal.{sealedPart};
+ghost use Rattle.log_batch.specs.Seal.{sealedPart};
 ghost use Rattle.item_reader.specs.Rows.{nextRow};
 ghost use Rattle.item_reader.specs.Steps.{rowsStanding, foundAt, stayed, stepOf};
 ghost use Rattle.item_reader.specs.Private.{foundGot};
 ghost use Rattle.item_reader.specs.Reader.{afterCount, openingOf, opened, stepFrom, after, nthOf};
-use body_check::BodyCheck;
+use log_batch::BodyCheck;
+use log_batch::content_len;
 use log_item::EntryIndex;
 use log_item::EntryIndexes;
 use log_item::Field;
@@ -20,7 +21,6 @@ use log_item::HeadRead;
 use log_item::LogItem;
 use log_item::TailRead;
 use refusal::Refusal;
-use seal::content_len;
 
 // Where the rows of an item stand that are still to be read: the place of the next tail, the total before it, the index of its entry,
 // and how many there are. Where none is left the index names no entry: it is the one after the last, which may have come round to 0.
@@ -176,7 +176,7 @@ pub fn next_row(body: &[u8], rows: EntryRows) -> RowRead
 fn open_body(body: &[u8], signature: u32) -> Opening
     ensures { λ r. ⌜ r ≡ openingOf (now (body .entry)) signature ⌝ }
 {
-    match body_check::check(body, signature) {
+    match log_batch::check(body, signature) {
         BodyCheck::Accepted {
             items,
             entries: _,

@@ -4,7 +4,7 @@ use Prim.Native.Nat.{ℕ}
 use mathlib.Core.Path.{_≡_, refl}
 use mathlib.Core.List.{_∷_}
 use Rattle.log_item.specs.declared.Command.the-variants.{Clean, Compact}
-use Rattle.field.specs.declared.Span.{Span}
+use Rattle.log_item.specs.declared.Span.{Span}
 use Rattle.log_item.specs.declared.Op.{Op}
 use Rattle.log_item.specs.declared.Op.the-variants.{Put, Del}
 use Rattle.log_item.specs.declared.LogItemContent.{LogItemContent}

@@ -3,7 +3,7 @@
 use Prim.Native.Nat.{ℕ}
 use mathlib.Core.Path.{_≡_}
 use borrow.Author.Tests.{ne-eqb}
-use Rattle.field.specs.declared.Span.{Span}
+use Rattle.log_item.specs.declared.Span.{Span}
 use Rattle.log_item.specs.declared.Command.the-variants.{Clean, Compact}
 use Rattle.log_item.specs.declared.Op.the-variants.{Put, Del}
 use Rattle.log_item.specs.declared.LogItemContent.the-variants as contents

@@ -2,8 +2,8 @@
 // entry; or the refusal alone.
 mod lines;
 
-use item_batch::LogItemBatch;
 use libc::STDIN_FILENO;
+use log_batch::LogItemBatch;
 use log_item::Command;
 use log_item::EntryIndex;
 use log_item::KeyValue;
@@ -15,7 +15,7 @@ use refusal::Refusal;
 fn main() {
     let mut input = io::large_buffer();
     let n = io::read_full(STDIN_FILENO, &mut input);
-    list(item_batch::read_items(&input[..n]));
+    list(log_batch::read_items(&input[..n]));
 }
 
 fn list(table: LogItemBatch) {

@@ -16,14 +16,14 @@ use Rattle.words.proofs.Words.{length-big, length-little, big-endian-back, litt
 use Rattle.crc.specs.Crc.{crcOf}
 use Rattle.words.specs.Byte.{Bytes}
 use Rattle.crc.proofs.Laws.{crc-lt}
-use Rattle.field.specs.Got.{got}
-use Rattle.seal.specs.Seal.{sealCheck, blockCheck, contentLength}
-use Rattle.batch_front.specs.Front.{blockBytes, bodyOffset, headerBytes, frontBytes}
-use Rattle.batch_front.proofs.Planning.{filled-block, block-empty, block-filled, header-length, front-length}
+use Rattle.log_item.specs.Got.{got}
+use Rattle.log_batch.specs.Seal.{sealCheck, blockCheck, contentLength}
+use Rattle.log_batch.specs.Front.{blockBytes, bodyOffset, headerBytes, frontBytes}
+use Rattle.log_batch.proofs.Planning.{filled-block, block-empty, block-filled, header-length, front-length}
 use Rattle.log_batch.specs.Header.{frame, header}
 use Rattle.log_batch.specs.Batch.{blockOf, bodyOf, frontBatch}
 use Rattle.log_batch.specs.Written.{framed, frameOf}
-use Rattle.seal.proofs.Sealing.{sealed-of, block-none, block-some}
+use Rattle.log_batch.proofs.Sealing.{sealed-of, block-none, block-some}
 use Rattle.log_batch.proofs.Frames.{frame-good, front-good}
 
 -- The bytes of a block pass its check.

@@ -10,20 +10,20 @@ use lib.Seq.{take-take}
 use Rattle.words.specs.Word.{bigEndian, readU64}
 use Rattle.words.specs.declared.U64Read.the-variants.{Done, Eof}
 use Rattle.words.proofs.Words.{u64-known, u64-ended}
-use Rattle.field.specs.Got.{Got, got, refused, done, _>>_}
-use Rattle.field.specs.declared.Form.the-variants.{Any}
-use Rattle.field.specs.declared.Span.{Span}
-use Rattle.field.proofs.Holds.{Holds, holds, refuses, after, at-most, equal, of-got}
-use Rattle.item_batch.specs.declared.LogItemBatch.{LogItemBatch}
-use Rattle.body_check.specs.declared.Wanted.the-variants.{Exactly}
-use Rattle.body_check.specs.Reading.{Answer, accepted, rejected, readItems}
-use Rattle.body_check.specs.Body.{readBody}
-use Rattle.body_check.proofs.Bodies.{body-refused, body-sealed}
-use Rattle.body_check.proofs.Refusing.{refusal-some}
-use Rattle.seal.specs.Seal.{sealedPart, sealCheck, blockCheck, contentLength}
-use Rattle.body_check.specs.Total.{agreeing}
-use Rattle.item_batch.specs.Table.{emptyTable, tableOf}
-use Rattle.seal.proofs.Sealing.{seal-long}
+use Rattle.log_item.specs.Got.{Got, got, refused, done, _>>_}
+use Rattle.log_item.specs.declared.Form.the-variants.{Any}
+use Rattle.log_item.specs.declared.Span.{Span}
+use Rattle.log_item.proofs.Holds.{Holds, holds, refuses, after, at-most, equal, of-got}
+use Rattle.log_batch.specs.declared.LogItemBatch.{LogItemBatch}
+use Rattle.log_batch.specs.declared.Wanted.the-variants.{Exactly}
+use Rattle.log_batch.specs.Reading.{Answer, accepted, rejected, readItems}
+use Rattle.log_batch.specs.Body.{readBody}
+use Rattle.log_batch.proofs.Sealed.{body-refused, body-sealed}
+use Rattle.log_batch.proofs.NonZero.{refusal-some}
+use Rattle.log_batch.specs.Seal.{sealedPart, sealCheck, blockCheck, contentLength}
+use Rattle.log_batch.specs.Total.{agreeing}
+use Rattle.log_batch.specs.Table.{emptyTable, tableOf}
+use Rattle.log_batch.proofs.Sealing.{seal-long}
 use Rattle.log_batch.specs.declared.LogBatch.{LogBatch}
 use Rattle.log_batch.specs.Header.{frame, header}
 use Rattle.log_batch.specs.Batch.{blockOf, bodyOf, passes, frontBatch, batchAnswer, readBatch, sealedBatch}

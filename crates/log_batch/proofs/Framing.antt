@@ -17,9 +17,9 @@ use Rattle.list_writer.specs.declared.Encoded.{Encoded}
 use Rattle.list_writer.specs.Bytes.{bodyBytes}
 use Rattle.list_writer.specs.Answers.{encoded, encodedOf, laid, MeasuredWritten}
 use Rattle.list_writer.proofs.Bodies.{accepted, body-length}
-use Rattle.batch_front.specs.Front.{bodyOffset, frontBytes, batchEncoded, FrontWritten}
-use Rattle.batch_front.proofs.Planning.{block-small, front-length, body-small, planned}
-use Rattle.batch_front.proofs.Fronts.{begun-told, begun-left, body-behind, front-stored}
+use Rattle.log_batch.specs.Front.{bodyOffset, frontBytes, batchEncoded, FrontWritten}
+use Rattle.log_batch.proofs.Planning.{block-small, front-length, body-small, planned}
+use Rattle.log_batch.proofs.Fronts.{begun-told, begun-left, body-behind, front-stored}
 use Rattle.log_batch.specs.Written.{framed, BatchWritten}
 
 module _ (s : List ℕ) (checked : Bool) (xs : List LogItem) (ns content out : List ℕ) {m : Measured} (same : m ≡ measureOf s checked xs ns)

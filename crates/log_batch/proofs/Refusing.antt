@@ -9,16 +9,16 @@ use borrow.Author.Tests.{ne-eqb, eqb-true}
 use lib.Dec.{leb, eqb}
 use lib.ListN.{length, take, drop}
 use Rattle.words.specs.Word.{bigEndian}
-use Rattle.seal.specs.Seal.{blockCheck}
-use Rattle.field.specs.Got.{refused, done, _>>_}
-use Rattle.field.specs.declared.Span.{Span}
+use Rattle.log_batch.specs.Seal.{blockCheck}
+use Rattle.log_item.specs.Got.{refused, done, _>>_}
+use Rattle.log_item.specs.declared.Span.{Span}
 use Rattle.log_item.specs.declared.LogItem.{LogItem}
 use Rattle.log_item.specs.declared.EntryIndex.{EntryIndex}
-use Rattle.body_check.specs.declared.Wanted.the-variants.{Exactly}
-use Rattle.body_check.specs.Reading.{Answer, accepted, rejected}
-use Rattle.body_check.specs.Total.{agreeing}
-use Rattle.item_batch.specs.Table.{tableOf}
-use Rattle.body_check.proofs.Refusing.{Says, gets, says, then, test}
+use Rattle.log_batch.specs.declared.Wanted.the-variants.{Exactly}
+use Rattle.log_batch.specs.Reading.{Answer, accepted, rejected}
+use Rattle.log_batch.specs.Total.{agreeing}
+use Rattle.log_batch.specs.Table.{tableOf}
+use Rattle.log_batch.proofs.NonZero.{Says, gets, says, then, test}
 use Rattle.log_batch.specs.declared.LogBatch.{LogBatch}
 use Rattle.log_batch.specs.Header.{frame, header}
 use Rattle.log_batch.specs.Batch.{blockOf, passes, frontBatch}

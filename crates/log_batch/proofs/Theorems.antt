@@ -18,46 +18,46 @@ use Rattle.words.specs.Word.{littleEndian, littleEndianBytes}
 use Rattle.words.specs.Byte.{Bytes}
 use Rattle.words.proofs.Words.{length-little}
 use Rattle.crc.specs.Crc.{crcOf}
-use Rattle.seal.specs.Seal.{sealedPart, contentLength}
-use Rattle.field.specs.Reading.{byte, number, span}
+use Rattle.log_batch.specs.Seal.{sealedPart, contentLength}
+use Rattle.log_item.specs.Pieces.{byte, number, span}
 use Rattle.log_item.specs.Reading.{command, putAt, keyValue, firstIndex, entryIndexes, content, head, tail, tails, oneItem}
-use Rattle.field.specs.declared.Span.{Span}
+use Rattle.log_item.specs.declared.Span.{Span}
 use Rattle.log_item.specs.declared.LogItem.{LogItem}
 use Rattle.log_item.specs.declared.EntryIndex.{EntryIndex}
-use Rattle.field.specs.declared.Form.{Form}
-use Rattle.field.specs.declared.Form.the-variants.{Any, Plain}
+use Rattle.log_item.specs.declared.Form.{Form}
+use Rattle.log_item.specs.declared.Form.the-variants.{Any, Plain}
 use Rattle.list_writer.specs.declared.Encoded.{Encoded}
 use Rattle.list_measure.specs.Bytes.{itemsBytes, listBytes, itemsOf}
 use Rattle.list_writer.specs.Bytes.{bodyBytes, footed}
 use Rattle.list_measure.specs.Refusing.{fine, itemsVerdict, listVerdict}
 use Rattle.list_measure.specs.Answers.{measuredOf, measureOf, measured}
 use Rattle.list_writer.specs.Answers.{encoded, laid, encodedOf}
-use Rattle.body_check.specs.Reading.{accepted, rejected, Answer, readItems}
-use Rattle.body_check.specs.Body.{readBody}
-use Rattle.body_check.specs.declared.Wanted.the-variants.{Exactly}
-use Rattle.body_check.specs.Total.{agreeing}
-use Rattle.body_check.specs.declared.BodyCheck.the-variants as check
-use Rattle.body_check.specs.declared.PlainForm.the-variants as plain
-use Rattle.body_check.specs.Answers.{checkOf, yesNo, plainBody}
-use Rattle.item_batch.specs.declared.LogItemBatch.{LogItemBatch}
-use Rattle.item_batch.specs.Table.{tableOf, emptyTable}
-use Rattle.item_batch.proofs.Tables.{in-table}
-use Rattle.item_batch.specs.Writing.{listed, tableLengths, BodyWritten, bodyItems, bodyRows, keysAndContents, AllSmall}
+use Rattle.log_batch.specs.Reading.{accepted, rejected, Answer, readItems}
+use Rattle.log_batch.specs.Body.{readBody}
+use Rattle.log_batch.specs.declared.Wanted.the-variants.{Exactly}
+use Rattle.log_batch.specs.Total.{agreeing}
+use Rattle.log_batch.specs.declared.BodyCheck.the-variants as check
+use Rattle.log_batch.specs.declared.PlainForm.the-variants as plain
+use Rattle.log_batch.specs.Answers.{checkOf, yesNo, plainBody}
+use Rattle.log_batch.specs.declared.LogItemBatch.{LogItemBatch}
+use Rattle.log_batch.specs.Table.{tableOf, emptyTable}
+use Rattle.log_batch.proofs.Tables.{in-table}
+use Rattle.log_batch.specs.Writing.{listed, tableLengths, BodyWritten, bodyItems, bodyRows, keysAndContents, AllSmall}
 use Rattle.log_item.specs.Spelling.{NumberIn}
-use Rattle.one_reading.specs.Spelling.{Spells, list}
-use Rattle.one_reading.specs.Acceptable.{Acceptable, Begins}
-use Rattle.one_reading.specs.Plain.{InPlainForm}
-use Rattle.one_reading.specs.Rows.{Joined, Indexed}
+use Rattle.log_batch.specs.Spelling.{Spells, list}
+use Rattle.log_batch.specs.Acceptable.{Acceptable, Begins}
+use Rattle.log_batch.specs.Plain.{InPlainForm}
+use Rattle.log_batch.specs.Rows.{Joined, Indexed}
 use Rattle.log_item.specs.Place.{Asks}
-use Rattle.one_reading.proofs.Accepts.{of-accepted}
-use Rattle.one_reading.proofs.Listing.{complete, sound, items-joined, items-indexed}
-use Rattle.one_reading.proofs.One.{one-spelled}
-use Rattle.one_reading.proofs.Bodies.{sound-body, complete-body, sound-plain, complete-plain}
-use Rattle.one_reading.proofs.Written.{written-spelled, written-kept, read-back, other-signature, table-small, buffer-written, buffer-read-back}
-use Rattle.one_reading.proofs.Encoding.{Encodes, writes, leaves}
-use Rattle.one_reading.proofs.ListWritten.{encodes}
-use Rattle.batch_front.specs.Front.{blockBytes, bodyOffset, batchEncoded}
-use Rattle.batch_front.proofs.Planning.{planned, verdict-of, refused-length}
+use Rattle.log_batch.proofs.Accepts.{of-accepted}
+use Rattle.log_batch.proofs.Listing.{complete, sound, items-joined, items-indexed}
+use Rattle.log_batch.proofs.One.{one-spelled}
+use Rattle.log_batch.proofs.Bodies.{sound-body, complete-body, sound-plain, complete-plain}
+use Rattle.log_batch.proofs.Written.{written-spelled, written-kept, read-back, other-signature, table-small, buffer-written, buffer-read-back}
+use Rattle.log_batch.proofs.Encoding.{Encodes, writes, leaves}
+use Rattle.log_batch.proofs.ListWritten.{encodes}
+use Rattle.log_batch.specs.Front.{blockBytes, bodyOffset, batchEncoded}
+use Rattle.log_batch.proofs.Planning.{planned, verdict-of, refused-length}
 use Rattle.log_batch.specs.Batch.{blockOf, bodyOf, readBatch}
 use Rattle.log_batch.specs.Examples.{AllRight, table}
 use Rattle.log_batch.specs.Written.{framed, frameOf, BatchWritten}

@@ -9,17 +9,17 @@ use borrow.Author.Tests.{le-leb, eq-eqb}
 use lib.ListN.{length, take, drop, length-append, length-drop}
 use lib.Seq.{take-append-le, drop-append-le}
 use Rattle.words.specs.Word.{bigEndian}
-use Rattle.seal.specs.Seal.{contentLength}
-use Rattle.field.specs.Got.{Got, got, refused}
-use Rattle.field.specs.declared.Span.{Span}
+use Rattle.log_batch.specs.Seal.{contentLength}
+use Rattle.log_item.specs.Got.{Got, got, refused}
+use Rattle.log_item.specs.declared.Span.{Span}
 use Rattle.log_item.specs.declared.LogItem.{LogItem}
 use Rattle.log_item.specs.declared.EntryIndex.{EntryIndex}
-use Rattle.body_check.specs.Reading.{accepted, rejected, Answer}
-use Rattle.body_check.specs.Body.{readBody}
-use Rattle.body_check.specs.declared.Wanted.the-variants.{Exactly}
-use Rattle.body_check.specs.Total.{agreeing}
-use Rattle.body_check.proofs.Refusing.{refusal-some}
-use Rattle.item_batch.specs.Table.{tableOf, emptyTable}
+use Rattle.log_batch.specs.Reading.{accepted, rejected, Answer}
+use Rattle.log_batch.specs.Body.{readBody}
+use Rattle.log_batch.specs.declared.Wanted.the-variants.{Exactly}
+use Rattle.log_batch.specs.Total.{agreeing}
+use Rattle.log_batch.proofs.NonZero.{refusal-some}
+use Rattle.log_batch.specs.Table.{tableOf, emptyTable}
 use Rattle.log_batch.specs.declared.LogBatch.{LogBatch}
 use Rattle.log_batch.specs.Header.{frame, header}
 use Rattle.log_batch.specs.Batch.{blockOf, bodyOf, frontBatch, batchAnswer, bodyPlace, blockPlace, readBatch}

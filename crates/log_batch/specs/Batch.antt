@@ -4,15 +4,15 @@ use Prim.Native.Nat.{ℕ, _-_}
 use mathlib.Core.List.{List}
 use lib.Dec.{leb, eqb}
 use lib.ListN.{length, take, drop}
-use Rattle.field.specs.Got.{Got, got, refused, Reading, done, _>>=_, _>>_, Test, _else_}
-use Rattle.field.specs.declared.Span.{Span}
-use Rattle.item_batch.specs.declared.LogItemBatch.{LogItemBatch}
-use Rattle.body_check.specs.declared.Wanted.the-variants.{Exactly}
-use Rattle.body_check.specs.Reading.{Answer, rejected}
-use Rattle.body_check.specs.Body.{readBody}
-use Rattle.body_check.specs.Total.{agreeing}
-use Rattle.seal.specs.Seal.{sealCheck, blockCheck, contentLength}
-use Rattle.item_batch.specs.Table.{tableOf}
+use Rattle.log_item.specs.Got.{Got, got, refused, Reading, done, _>>=_, _>>_, Test, _else_}
+use Rattle.log_item.specs.declared.Span.{Span}
+use Rattle.log_batch.specs.declared.LogItemBatch.{LogItemBatch}
+use Rattle.log_batch.specs.declared.Wanted.the-variants.{Exactly}
+use Rattle.log_batch.specs.Reading.{Answer, rejected}
+use Rattle.log_batch.specs.Body.{readBody}
+use Rattle.log_batch.specs.Total.{agreeing}
+use Rattle.log_batch.specs.Seal.{sealCheck, blockCheck, contentLength}
+use Rattle.log_batch.specs.Table.{tableOf}
 use Rattle.log_batch.specs.declared.LogBatch.{LogBatch}
 use Rattle.log_batch.specs.Header.{header}
 

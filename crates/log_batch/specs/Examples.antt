@@ -5,10 +5,10 @@ use mathlib.Core.Path.{_≡_}
 use mathlib.Core.List.{List, [], _∷_}
 use lib.ListN.{length}
 use Rattle.numbers.specs.Shortest.{shortest}
-use Rattle.field.specs.Got.{Got, got, refused}
+use Rattle.log_item.specs.Got.{Got, got, refused}
 use Rattle.log_item.specs.Reading.{Read, oneItem}
-use Rattle.field.specs.Reading.{number}
-use Rattle.field.specs.declared.Form.the-variants.{Any}
+use Rattle.log_item.specs.Pieces.{number}
+use Rattle.log_item.specs.declared.Form.the-variants.{Any}
 use Rattle.log_item.specs.declared.Command.the-variants.{Compact}
 use Rattle.log_item.specs.declared.Op.the-variants.{Put}
 use Rattle.log_item.specs.declared.LogItemContent.the-variants as contents

@@ -5,7 +5,7 @@ use mathlib.Core.List.{List}
 use lib.Dec.{leb}
 use lib.ListN.{length, take, drop}
 use Rattle.words.specs.Word.{bigEndian}
-use Rattle.field.specs.Got.{Got, got, refused, Reading, upto, _>>_, _else_}
+use Rattle.log_item.specs.Got.{Got, got, refused, Reading, upto, _>>_, _else_}
 use Rattle.log_batch.specs.declared.LogBatch.{LogBatch}
 use Rattle.log_batch.specs.declared.HeaderRead.{HeaderRead}
 use Rattle.log_batch.specs.declared.HeaderRead.the-variants as read

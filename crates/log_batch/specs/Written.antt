@@ -10,7 +10,7 @@ use Rattle.list_measure.specs.Answers.{measureOf}
 use Rattle.list_writer.specs.declared.Encoded.{Encoded}
 use Rattle.list_writer.specs.Bytes.{bodyBytes}
 use Rattle.list_writer.specs.Answers.{laid}
-use Rattle.batch_front.specs.Front.{bodyOffset, frontBytes, batchEncoded}
+use Rattle.log_batch.specs.Front.{bodyOffset, frontBytes, batchEncoded}
 use Rattle.log_batch.specs.declared.LogBatch.{LogBatch}
 
 -- header, block, body

@@ -1,27 +1,88 @@
-// Whole batches, read and written: header, block and body. From log_batch.rs, LogBatch.
-//
-// Bodies and blocks, the bytes of an entry and the marks of atomic groups are read in small crates below this one, and their functions have
-// their names here too. What stands before the body of a batch that is written, batch_front writes.
-pub use atomic_status::AtomicGroupStatus;
-pub use atomic_status::StatusRead;
-pub use body_check::BodyCheck;
-pub use body_check::PlainForm;
-pub use body_check::check;
-pub use body_check::check_items;
-pub use body_check::plain;
-pub use entry_view::entry_view;
-pub use item_batch::LogItemBatch;
-pub use item_batch::read_items;
+// Bodies and whole batches, read and written: their types, and a batch's header, block and body. From log_batch.rs, LogItemBatch to
+// AtomicGroupStatus.
+mod body;
+mod front;
+mod seal;
+mod status;
+mod table;
+mod view;
+
+pub use body::check;
+pub use body::check_items;
+pub use body::plain;
+pub use front::begin;
 pub use list_writer::Encoded;
 pub use seal::check_block;
+pub use seal::check_seal;
+pub use seal::content_len;
+pub use table::read_items;
+pub use view::check_entry;
+pub use view::entry_view;
 ghost use mathlib.Core.Path.{_≡_};
 ghost use mathlib.Core.Bool.{true, false};
 ghost use Rattle.log_batch.specs.Header.{frame, header, headerGot};
 ghost use Rattle.log_batch.specs.Batch.{frontBatch, sealedBatch, readBatch};
 ghost use Rattle.log_batch.specs.Written.{BatchWritten};
-ghost use Rattle.item_batch.specs.Writing.{listed, tableLengths};
+ghost use Rattle.log_batch.specs.Writing.{listed, tableLengths};
 use codec::U64Read;
+use log_item::EntryIndex;
+use log_item::LogItem;
 use log_item::Span;
+use refusal::Refusal;
+
+// What a body holds: the first item_count rows of items and entry_count rows of entries; rows past them are blank. Keys and contents
+// are spans of the body. A refused reading has no rows, and its refusal's number is not 0.
+pub struct LogItemBatch {
+    pub items: [LogItem; 256],
+    pub item_count: usize,
+    pub entries: [EntryIndex; 1024],
+    pub entry_count: usize,
+    // the sum of all entry lengths, and the place after the last item, in the body
+    pub total: u32,
+    pub next: usize,
+    // where body and block stand in the bytes that were read; 0 0 where there is none
+    pub body: Span,
+    pub block: Span,
+    pub refusal: Refusal,
+}
+
+// The entry total that a reading must come to: any, or the length of the block's content.
+pub enum Wanted {
+    Free,
+    Exactly(usize),
+}
+
+// How much a body holds, with no table: numbers of items and entries, the entry total and the place after the last item; or its refusal.
+pub enum BodyCheck {
+    Accepted {
+        items: usize,
+        entries: usize,
+        total: u32,
+        next: usize,
+    },
+    Refused(Refusal),
+}
+
+// Whether each number of a body has its shortest spelling; a refused body has its refusal.
+pub enum PlainForm {
+    Yes,
+    No,
+    Refused(Refusal),
+}
+
+// What a mark says of its group of batches.
+pub enum AtomicGroupStatus {
+    Begin,
+    Middle,
+    End,
+}
+
+// The status that an item marks and the group's number; or that it is no mark; or why it is refused.
+pub enum StatusRead {
+    Mark { id: u64, status: AtomicGroupStatus },
+    NoMark,
+    Refused(Refusal),
+}
 
 // The frame of a batch, as its header states it.
 pub struct LogBatch {
@@ -40,9 +101,9 @@ pub enum HeaderRead {
 }
 
 impl LogBatch {
-    pub const HEADER_LEN: usize = batch_front::HEADER_LEN;
+    pub const HEADER_LEN: usize = 16;
 
-    pub const CHECKSUM_LEN: usize = batch_front::CHECKSUM_LEN;
+    pub const CHECKSUM_LEN: usize = 4;
 
     // The frame of a batch that is not compressed.
     pub fn new(offset: usize, len: usize) -> LogBatch
@@ -80,7 +141,7 @@ impl LogBatch {
             HeaderRead::Done { batch } => {
                 let offset = batch.offset;
                 let len = batch.len;
-                let broken = seal::check_seal(&buf[offset..len], signature);
+                let broken = check_seal(&buf[offset..len], signature);
                 if broken != refusal::NONE {
                     return HeaderRead::Refused(broken);
                 }
@@ -110,7 +171,7 @@ impl LogBatch {
                 if t.refusal.number != refusal::NONE {
                     return t;
                 }
-                if t.total as usize != seal::content_len(block.len) {
+                if t.total as usize != content_len(block.len) {
                     return LogItemBatch::empty(refusal::BLOCK_DIFFERS, 0);
                 }
                 t.body = body;
@@ -138,7 +199,7 @@ impl LogBatch {
         let entries = table.entries;
         let rows = table.entry_count;
         let m = list_writer::measure(items, count, entries, rows, store, true);
-        let r = batch_front::begin(m, count, content, out);
+        let r = begin(m, count, content, out);
         if r.length == 0 {
             return r;
         }
@@ -162,7 +223,7 @@ impl LogBatch {
         let entries = table.entries;
         let rows = table.entry_count;
         let m = list_writer::measure(items, count, entries, rows, store, false);
-        let r = batch_front::begin(m, count, content, out);
+        let r = begin(m, count, content, out);
         if r.length == 0 {
             return r;
         }
@@ -222,7 +283,7 @@ fn check_front(buf: &[u8]) -> HeaderRead
             if batch.compression != 0 {
                 return HeaderRead::Refused(refusal::COMPRESSED);
             }
-            let broken = seal::check_block(&buf[start..offset]);
+            let broken = check_block(&buf[start..offset]);
             if broken != refusal::NONE {
                 return HeaderRead::Refused(broken);
             }

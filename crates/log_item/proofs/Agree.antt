@@ -4,10 +4,10 @@ use Prim.Native.Nat.{ℕ, _≤_}
 use mathlib.Core.Path.{_≡_}
 use mathlib.Core.Logic.{_↔_}
 use mathlib.Core.List.{List}
-use Rattle.field.specs.declared.Form.{Form}
-use Rattle.field.specs.Got.{got}
+use Rattle.log_item.specs.declared.Form.{Form}
+use Rattle.log_item.specs.Got.{got}
 use Rattle.log_item.specs.Reading.{Read, oneItem}
-use Rattle.field.proofs.Holds.{of-got}
+use Rattle.log_item.proofs.Holds.{of-got}
 use Rattle.log_item.specs.Place.{Found, Asks, ItemSpelled}
 use Rattle.log_item.proofs.Complete.{complete-item}
 use Rattle.log_item.proofs.Sound.{sound-item}

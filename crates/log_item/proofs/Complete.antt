@@ -6,18 +6,18 @@ use mathlib.Core.List.{List, [], _∷_}
 use native.Mathlib.Omega.{arith}
 use lib.ListN.{length, length-append}
 use borrow.Author.Tests.{le-leb}
-use Rattle.field.specs.declared.Form.{Form}
-use Rattle.field.specs.declared.Span.{Span}
+use Rattle.log_item.specs.declared.Form.{Form}
+use Rattle.log_item.specs.declared.Span.{Span}
 use Rattle.log_item.specs.declared.LogItemContent.{LogItemContent}
 use Rattle.log_item.specs.declared.LogItem.{LogItem}
 use Rattle.log_item.specs.declared.EntryIndex.{EntryIndex}
 use Rattle.log_item.specs.Entries.{entriesOf, typeOf}
-use Rattle.field.specs.Got.{got}
+use Rattle.log_item.specs.Got.{got}
 use Rattle.log_item.specs.Each.{Each, one}
 use Rattle.log_item.specs.Limits.{RowFits}
 use Rattle.log_item.specs.Spelling.{NumberIn, Spanned, spanned, Contents, no-entries, entries, clean, compact, put, delete, Tails, no-more, next, OneItem, item}
 use Rattle.log_item.specs.Place.{At}
-use Rattle.field.specs.Reading.{span}
+use Rattle.log_item.specs.Pieces.{span}
 use Rattle.log_item.specs.Reading.{command, putAt, keyValue, firstIndex, entryIndexes, content, head, tail, tails, oneItem}
 use Rattle.log_item.proofs.Place.{cut, inside, complete-byte}
 use Rattle.log_item.proofs.Numbers.{number-some, complete-number}

@@ -4,11 +4,11 @@ use Prim.Native.Nat.{ℕ}
 use mathlib.Core.Path.{_≡_}
 use mathlib.Core.List.{List}
 use borrow.Author.Tests.{ne-eqb}
-use Rattle.field.specs.Got.{got, refused}
-use Rattle.field.specs.Reading.{byte, number, span}
+use Rattle.log_item.specs.Got.{got, refused}
+use Rattle.log_item.specs.Pieces.{byte, number, span}
 use Rattle.log_item.specs.Reading.{command, putAt, keyValue}
-use Rattle.field.specs.declared.Form.{Form}
-use Rattle.field.specs.declared.Span.{Span}
+use Rattle.log_item.specs.declared.Form.{Form}
+use Rattle.log_item.specs.declared.Span.{Span}
 use Rattle.log_item.specs.declared.Command.the-variants.{Clean, Compact}
 use Rattle.log_item.specs.declared.Op.the-variants.{Put, Del}
 

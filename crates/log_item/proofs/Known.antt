@@ -7,14 +7,14 @@ use native.Mathlib.Omega.{arith}
 use native.Mathlib.Nat.{eq-zero-or-pos}
 use mathlib.Core.Logic.{⊎-elim}
 use lib.Dec.{eqb}
-use Rattle.field.specs.Got.{got}
+use Rattle.log_item.specs.Got.{got}
 use Rattle.log_item.specs.Entries.{entriesOf}
-use Rattle.field.specs.Reading.{byte, number}
+use Rattle.log_item.specs.Pieces.{byte, number}
 use Rattle.log_item.specs.Reading.{command, keyValue, firstIndex, entryIndexes, content, head, tail}
-use Rattle.field.specs.declared.Form.{Form}
+use Rattle.log_item.specs.declared.Form.{Form}
 use Rattle.log_item.specs.declared.EntryIndexes.{EntryIndexes}
 use Rattle.log_item.specs.declared.LogItem.{LogItem}
-use Rattle.field.proofs.Holds.{Holds, holds, refuses, after, later, at-most, chosen, of-got}
+use Rattle.log_item.proofs.Holds.{Holds, holds, refuses, after, later, at-most, chosen, of-got}
 
 -- entries that may follow e others: what is stated of them where there is one
 pub record EntriesFit (e : ℕ) (x : EntryIndexes) : Type 0 where

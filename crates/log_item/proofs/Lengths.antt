@@ -7,10 +7,10 @@ use mathlib.Core.List.{List, _∷_, _++_}
 use native.Mathlib.Omega.{arith}
 use lib.ListN.{length, take, drop, length-append, length-take, length-drop}
 use Rattle.numbers.specs.Shortest.{shortest, spell}
-use Rattle.field.proofs.Inside.{inside-bound}
-use Rattle.field.specs.Prefix.{bytesOf}
+use Rattle.log_item.proofs.Inside.{inside-bound}
+use Rattle.log_item.specs.Prefix.{bytesOf, inside}
 use Rattle.log_item.specs.Entries.{typeOf}
-use Rattle.field.specs.declared.Span.{Span}
+use Rattle.log_item.specs.declared.Span.{Span}
 use Rattle.log_item.specs.declared.Command.{Command}
 use Rattle.log_item.specs.declared.Command.the-variants.{Clean, Compact}
 use Rattle.log_item.specs.declared.Op.{Op}
@@ -21,7 +21,6 @@ use Rattle.log_item.specs.declared.LogItemContent.{LogItemContent}
 use Rattle.log_item.specs.declared.LogItemContent.the-variants as contents
 use Rattle.log_item.specs.declared.LogItem.{LogItem}
 use Rattle.log_item.specs.Bytes.{spanBytes, commandBytes, opBytes, entriesBytes, contentBytes, headBytes}
-use Rattle.field.specs.Prefix.{inside}
 use Rattle.log_item.specs.Refusing.{opInside, contentInside}
 use Rattle.log_item.specs.Private.{fitted, spanLength, opLength, itemContentLength, headLength}
 

@@ -1,3 +1,10 @@
+pub mod Holds
+pub mod Smallest
+pub mod NumberGot
+pub mod Starts
+pub mod Inside
+pub mod Going
+pub mod Short
 pub mod Fields
 pub mod Parts
 pub mod Passing

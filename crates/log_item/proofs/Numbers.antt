@@ -14,13 +14,13 @@ use Rattle.numbers.specs.Shortest.{shortest}
 use Rattle.numbers.specs.Spelling.{Spells}
 use Rattle.numbers.proofs.Spelled.{groups-pos}
 use Rattle.numbers.proofs.Theorems.{read-iff-stands, shortest-spells, none-as-short, spells-fits}
-use Rattle.field.specs.declared.Form.{Form}
-use Rattle.field.specs.declared.Form.the-variants.{Any, Plain}
-use Rattle.field.specs.Got.{got}
+use Rattle.log_item.specs.declared.Form.{Form}
+use Rattle.log_item.specs.declared.Form.the-variants.{Any, Plain}
+use Rattle.log_item.specs.Got.{got}
 use Rattle.log_item.specs.Spelling.{NumberIn}
 use Rattle.log_item.specs.Place.{At, Found, Asks}
-use Rattle.field.specs.Reading.{numberGot, number}
-use Rattle.field.proofs.Holds.{Holds, holds, refuses, after, equal}
+use Rattle.log_item.specs.Pieces.{numberGot, number}
+use Rattle.log_item.proofs.Holds.{Holds, holds, refuses, after, equal}
 use Rattle.words.specs.Byte.{Bytes}
 use Rattle.log_item.proofs.Place.{bytes-at}
 

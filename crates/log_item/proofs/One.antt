@@ -7,8 +7,8 @@ use mathlib.Core.List.{List, _∷_, _++_, append-assoc, append-cancel-left}
 use native.Mathlib.Omega.{arith}
 use Rattle.words.proofs.Bytes.{as-long}
 use Rattle.numbers.proofs.Theorems.{one-spelling}
-use Rattle.field.specs.declared.Form.the-variants.{Any}
-use Rattle.field.specs.declared.Span.{Span}
+use Rattle.log_item.specs.declared.Form.the-variants.{Any}
+use Rattle.log_item.specs.declared.Span.{Span}
 use Rattle.log_item.specs.declared.Command.{Command}
 use Rattle.log_item.specs.declared.KeyValue.{KeyValue}
 use Rattle.log_item.specs.declared.EntryIndexes.{EntryIndexes}

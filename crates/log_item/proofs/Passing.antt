@@ -5,16 +5,16 @@ use Prim.Native.Nat.{ℕ, zero, suc, _+_, _-_, _<_}
 use mathlib.Core.Path.{_≡_, refl, sym, ap, _∙_}
 use mathlib.Core.List.{List, _∷_}
 use lib.ListN.{length}
-use Rattle.field.specs.Got.{Got, got, refused, Reading, done, bind}
+use Rattle.log_item.specs.Got.{Got, got, refused, Reading, done, bind}
 use Rattle.log_item.specs.Entries.{entriesOf}
 use Rattle.log_item.specs.Reading.{Read, head, tail, tails, oneItem}
 use Rattle.log_item.specs.Answers.{Counted, passItem, passTails}
-use Rattle.field.specs.declared.Form.{Form}
+use Rattle.log_item.specs.declared.Form.{Form}
 use Rattle.log_item.specs.declared.EntryIndex.{EntryIndex}
 use Rattle.log_item.specs.declared.EntryIndexes.{EntryIndexes}
 use Rattle.log_item.specs.declared.LogItem.{LogItem}
 use Rattle.log_item.proofs.Parts.{one-more}
-use Rattle.field.proofs.Holds.{Holds, holds, after, later, only, of-got}
+use Rattle.log_item.proofs.Holds.{Holds, holds, after, later, only, of-got}
 
 -- the total alone
 abbrev pub totalOf : Got (List EntryIndex × ℕ) → Got ℕ

@@ -10,9 +10,9 @@ use lib.Seq.{drop-cons, drop-drop, drop-append-seam}
 use borrow.Author.Tests.{lt-ltb}
 use Rattle.words.specs.Byte.{Bytes}
 use Rattle.words.proofs.Bytes.{bytes-front, bytes-drop}
-use Rattle.field.specs.Got.{got}
-use Rattle.field.specs.Reading.{byte}
-use Rattle.field.proofs.Holds.{Holds, holds, below}
+use Rattle.log_item.specs.Got.{got}
+use Rattle.log_item.specs.Pieces.{byte}
+use Rattle.log_item.proofs.Holds.{Holds, holds, below}
 use Rattle.log_item.specs.Place.{At}
 
 -- Bytes with others behind them begin them.

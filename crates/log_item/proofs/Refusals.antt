@@ -9,8 +9,8 @@ use lib.Dec.{ltb, leb}
 use borrow.Author.Tests.{ltb-false, lt-ltb, le-ltb, leb-true, le-leb, lt-leb}
 use Rattle.refusal.specs.First.{firstOf}
 use Rattle.log_item.specs.Entries.{entriesOf}
-use Rattle.field.specs.Prefix.{prefix, begins, bytesOf}
-use Rattle.field.specs.declared.Span.{Span}
+use Rattle.log_item.specs.Prefix.{prefix, begins, bytesOf, inside}
+use Rattle.log_item.specs.declared.Span.{Span}
 use Rattle.log_item.specs.declared.Op.{Op}
 use Rattle.log_item.specs.declared.Op.the-variants.{Put, Del}
 use Rattle.log_item.specs.declared.EntryIndexes.{EntryIndexes}
@@ -18,7 +18,6 @@ use Rattle.log_item.specs.declared.Command.{Command}
 use Rattle.log_item.specs.declared.KeyValue.{KeyValue}
 use Rattle.log_item.specs.declared.LogItemContent.{LogItemContent}
 use Rattle.log_item.specs.declared.LogItemContent.the-variants as contents
-use Rattle.field.specs.Prefix.{inside}
 use Rattle.log_item.specs.Refusing.{opInside, spanRefusal, contentInside, indexRefusal, entriesRefusal, keyRefusal, contentRefusal}
 use Rattle.log_item.specs.Written.{pieceRefusal}
 

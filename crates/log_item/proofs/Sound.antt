@@ -6,7 +6,7 @@ use mathlib.Core.List.{List, [], _∷_, _++_, append-assoc}
 use native.Mathlib.Omega.{arith}
 use lib.ListN.{length, take, drop, length-take, length-drop, take-append-drop}
 use lib.Seq.{drop-drop}
-use Rattle.field.specs.declared.Form.{Form}
+use Rattle.log_item.specs.declared.Form.{Form}
 use Rattle.log_item.specs.declared.LogItemContent.{LogItemContent}
 use Rattle.log_item.specs.declared.LogItemContent.the-variants as content
 use Rattle.log_item.specs.declared.LogItem.{LogItem}
@@ -17,10 +17,10 @@ use Rattle.log_item.specs.Each as every
 use Rattle.log_item.specs.Limits.{RowFits}
 use Rattle.log_item.specs.Spelling.{NumberIn, Spanned, spanned, Contents, no-entries, entries, clean, compact, put, delete, Tails, no-more, next, item}
 use Rattle.log_item.specs.Place.{At, Found, Asks, ItemSpelled}
-use Rattle.field.specs.Reading.{span}
+use Rattle.log_item.specs.Pieces.{span}
 use Rattle.log_item.specs.Reading.{command, putAt, keyValue, firstIndex, entryIndexes, head, tail, tails, oneItem}
 use Rattle.log_item.specs.Reading as reading
-use Rattle.field.proofs.Holds.{Holds, holds, refuses, after, at-most, is}
+use Rattle.log_item.proofs.Holds.{Holds, holds, refuses, after, at-most, is}
 use Rattle.log_item.proofs.Place.{join, nothing, sound-byte}
 use Rattle.log_item.proofs.Numbers.{sound-number}
 use Rattle.log_item.proofs.Complete.{tails-length}

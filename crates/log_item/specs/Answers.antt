@@ -4,9 +4,14 @@
 use Prim.Native.Nat.{ℕ, _+_}
 use mathlib.Core.List.{List}
 use lib.ListN.{length}
-use Rattle.field.specs.Got.{Got, got, refused, Reading, done, _>>=_}
+use Rattle.log_item.specs.Got.{Got, got, refused, Reading, done, _>>=_}
 use Rattle.log_item.specs.Reading.{tails, oneItem}
-use Rattle.field.specs.declared.Form.{Form}
+use Rattle.log_item.specs.declared.Form.{Form}
+use Rattle.log_item.specs.declared.Span.{Span}
+use Rattle.log_item.specs.declared.Field.{Field}
+use Rattle.log_item.specs.declared.Field.the-variants as field
+use Rattle.log_item.specs.declared.SpanRead.{SpanRead}
+use Rattle.log_item.specs.declared.SpanRead.the-variants as span
 use Rattle.log_item.specs.declared.LogItem.{LogItem}
 use Rattle.log_item.specs.declared.HeadRead.{HeadRead}
 use Rattle.log_item.specs.declared.HeadRead.the-variants as head
@@ -14,6 +19,16 @@ use Rattle.log_item.specs.declared.TailRead.{TailRead}
 use Rattle.log_item.specs.declared.TailRead.the-variants as tail
 use Rattle.log_item.specs.declared.ItemRead.{ItemRead}
 use Rattle.log_item.specs.declared.ItemRead.the-variants as item
+use Rattle.log_item.specs.declared.Passed.{Passed}
+use Rattle.log_item.specs.declared.Passed.the-variants as passed
+
+abbrev pub fieldGot : Field → Got ℕ
+fieldGot (field.Done v q) = got v q
+fieldGot (field.Refused r) = refused r
+
+abbrev pub spanGot : SpanRead → Got Span
+spanGot (span.Done x q) = got x q
+spanGot (span.Refused r) = refused r
 
 abbrev pub headGot : HeadRead → Got LogItem
 headGot (head.Done x q) = got x q
@@ -44,3 +59,8 @@ unfoldable pub passTails : Form → List ℕ → ℕ → ℕ → Reading ℕ
 passTails form s n t = do
   (rows, u) ← tails form s n 0 t
   done u
+
+-- an item that was gone over: what it is is forgotten
+abbrev pub itemPassed : Got Counted → Passed
+itemPassed (got r q) = passed.Done q (r .total) (r .used)
+itemPassed (refused r) = passed.Refused r

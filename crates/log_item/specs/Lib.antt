@@ -1,3 +1,7 @@
+pub mod Got
+pub mod Pieces
+pub mod Prefix
+pub mod PassingPrivate
 pub mod Entries
 pub mod Reading
 pub mod Answers

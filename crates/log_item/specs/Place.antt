@@ -5,8 +5,8 @@ use mathlib.Core.Path.{_≡_}
 use mathlib.Core.List.{List, _++_}
 use lib.ListN.{length, drop}
 use Rattle.words.specs.Byte.{Bytes}
-use Rattle.field.specs.declared.Form.{Form}
-use Rattle.field.specs.declared.Form.the-variants.{Any, Plain}
+use Rattle.log_item.specs.declared.Form.{Form}
+use Rattle.log_item.specs.declared.Form.the-variants.{Any, Plain}
 use Rattle.log_item.specs.Reading.{Read}
 use Rattle.log_item.specs.Each.{Each}
 use Rattle.log_item.specs.Limits.{RowFits}

@@ -8,7 +8,7 @@ use lib.Dec.{ltb}
 use lib.ListN.{length}
 use lib.Seq.{sets}
 use Rattle.numbers.specs.Shortest.{shortest}
-use Rattle.field.specs.declared.Span.{Span}
+use Rattle.log_item.specs.declared.Span.{Span}
 use Rattle.log_item.specs.declared.Op.{Op}
 use Rattle.log_item.specs.declared.Op.the-variants.{Put, Del}
 use Rattle.log_item.specs.declared.LogItemContent.{LogItemContent}
@@ -18,7 +18,7 @@ use Rattle.log_item.specs.Bytes.{entriesBytes, commandBytes, tailsBytes}
 use Rattle.log_item.specs.Written.{sumOf}
 use Rattle.log_item.specs.declared.TailsSize.{TailsSize}
 use Rattle.log_item.specs.declared.TailsSize.the-variants.{Fine, TooLarge}
-use Rattle.field.specs.Got.{Got, got, refused}
+use Rattle.log_item.specs.Got.{Got, got, refused}
 use Rattle.log_item.specs.declared.Command.{Command}
 use Rattle.log_item.specs.declared.KeyValue.{KeyValue}
 use Rattle.log_item.specs.declared.EntryIndexes.{EntryIndexes}

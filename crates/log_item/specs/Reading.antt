@@ -4,10 +4,10 @@ use Prim.Native.Nat.{ℕ, zero, suc, _+_, _-_}
 use mathlib.Core.Bool.{cond}
 use mathlib.Core.List.{List, [], _∷_}
 use lib.Dec.{leb, eqb}
-use Rattle.field.specs.Got.{Reading, done, refuse, _>>=_, _>>_, _else_}
-use Rattle.field.specs.Reading.{byte, number, span}
+use Rattle.log_item.specs.Got.{Reading, done, refuse, _>>=_, _>>_, _else_}
+use Rattle.log_item.specs.Pieces.{byte, number, span}
 use Rattle.log_item.specs.Entries.{entriesOf}
-use Rattle.field.specs.declared.Form.{Form}
+use Rattle.log_item.specs.declared.Form.{Form}
 use Rattle.log_item.specs.declared.Command.{Command}
 use Rattle.log_item.specs.declared.Command.the-variants.{Clean, Compact}
 use Rattle.log_item.specs.declared.KeyValue.{KeyValue}

@@ -5,8 +5,8 @@ use mathlib.Core.Bool.{Bool, true, cond, _&&_}
 use mathlib.Core.List.{List}
 use lib.Dec.{ltb, leb}
 use Rattle.refusal.specs.First.{firstOf}
-use Rattle.field.specs.Prefix.{prefix, begins, bytesOf, inside}
-use Rattle.field.specs.declared.Span.{Span}
+use Rattle.log_item.specs.Prefix.{prefix, begins, bytesOf, inside}
+use Rattle.log_item.specs.declared.Span.{Span}
 use Rattle.log_item.specs.declared.Op.{Op}
 use Rattle.log_item.specs.declared.Op.the-variants.{Put, Del}
 use Rattle.log_item.specs.declared.EntryIndexes.{EntryIndexes}

@@ -8,9 +8,9 @@ use lib.ListN.{length}
 use Rattle.numbers.specs.Spelling as numbers
 use Rattle.numbers.specs.Shortest.{shortest}
 use Rattle.log_item.specs.Entries.{entriesOf, typeOf}
-use Rattle.field.specs.declared.Form.{Form}
-use Rattle.field.specs.declared.Form.the-variants.{Any, Plain}
-use Rattle.field.specs.declared.Span.{Span}
+use Rattle.log_item.specs.declared.Form.{Form}
+use Rattle.log_item.specs.declared.Form.the-variants.{Any, Plain}
+use Rattle.log_item.specs.declared.Span.{Span}
 use Rattle.log_item.specs.declared.Command.the-variants as command
 use Rattle.log_item.specs.declared.Op.the-variants as op
 use Rattle.log_item.specs.declared.LogItemContent.{LogItemContent}

@@ -1,14 +1,16 @@
 // An entries item: its first index, and the way over its tails.
 ghost use mathlib.Core.Path.{_≡_};
-ghost use Rattle.log_item.specs.Reading.{firstIndex};
+ghost use Rattle.log_item.specs.Pieces.{number};
+ghost use Rattle.log_item.specs.Reading.{firstIndex, tail};
 ghost use Rattle.log_item.specs.Private.{entriesGot};
-ghost use Rattle.log_item.specs.Answers.{tailGot, passTails};
+ghost use Rattle.log_item.specs.Answers.{fieldGot, tailGot, passTails};
 use crate::EntryIndexes;
 use crate::EntryIndexesRead;
+use crate::Field;
+use crate::Form;
 use crate::TailRead;
-use field::Field;
-use field::Form;
-use field::read_number;
+use crate::piece::read_number;
+use words::wide;
 
 // The first index of `count` entries, where there are any.
 pub(crate) fn read_first_index(buf: &[u8], at: usize, count: usize, form: Form) -> EntryIndexesRead
@@ -48,7 +50,7 @@ pub fn skip_tails(buf: &[u8], at: usize, count: usize, before: u32, form: Form) 
     let mut total = before;
     let mut place = at;
     while 0 < left {
-        match EntryIndexes::decode_tail(buf, place, total, form) {
+        match tail_at(buf, place, total, form) {
             TailRead::Done { total: after, next } => {
                 total = after;
                 place = next;
@@ -60,4 +62,53 @@ pub fn skip_tails(buf: &[u8], at: usize, count: usize, before: u32, form: Form) 
         }
     }
     TailRead::Done { total, next: place }
+}
+
+// The tail at a place, with the total `before` it: what EntryIndexes::decode_tail answers, quicker where many are gone over.
+fn tail_at(buf: &[u8], at: usize, before: u32, form: Form) -> TailRead
+    ensures { λ r. ⌜ tailGot r ≡ tail form (now (buf .entry)) before at ⌝ }
+{
+    match read_tail(buf, at, form) {
+        Field::Done { value, next } => {
+            if 4294967295 < value {
+                return TailRead::Refused(refusal::TAIL_TOO_LARGE);
+            }
+            let total = value as u32;
+            if total < before {
+                return TailRead::Refused(refusal::TAIL_FALLS);
+            }
+            TailRead::Done { total, next }
+        }
+        Field::Refused(number) => TailRead::Refused(number),
+    }
+}
+
+// The number at a place, quicker for two and three bytes, as most tails have.
+fn read_tail(buf: &[u8], at: usize, form: Form) -> Field
+    ensures { λ r. ⌜ fieldGot r ≡ number form (now (buf .entry)) at ⌝ }
+{
+    if let Form::Any = form {
+        if at < buf.len() {
+            if 2 < buf.len() - at {
+                let a = wide(buf[at]);
+                if 128 <= a {
+                    let b = wide(buf[at + 1]);
+                    if b < 128 {
+                        return Field::Done {
+                            value: a - 128 + (b << 7),
+                            next: at + 2,
+                        };
+                    }
+                    let c = wide(buf[at + 2]);
+                    if c < 128 {
+                        return Field::Done {
+                            value: a - 128 + ((b - 128) << 7) + (c << 14),
+                            next: at + 3,
+                        };
+                    }
+                }
+            }
+        }
+    }
+    read_number(buf, at, form)
 }

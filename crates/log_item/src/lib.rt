@@ -5,25 +5,48 @@
 // where Form::Plain alone refuses.
 mod entries;
 mod measuring;
+mod pass;
+mod piece;
+mod prefix;
 mod refusing;
 mod writing;
 
 pub use entries::skip_tails;
-pub use field::Field;
-pub use field::Form;
-pub use field::Span;
-pub use field::SpanRead;
-pub use field::is_internal_key;
-pub use field::lies_in;
-pub use field::read_byte;
-pub use field::read_number;
-pub use field::read_span;
+pub use piece::read_byte;
+pub use piece::read_number;
+pub use piece::read_span;
+pub use prefix::is_internal_key;
+pub use prefix::lies_in;
 ghost use mathlib.Core.Path.{_≡_};
 ghost use Rattle.log_item.specs.Entries.{entriesOf};
 ghost use Rattle.log_item.specs.Reading.{command, putAt, keyValue, entryIndexes, content, head, tail};
 ghost use Rattle.log_item.specs.Private.{commandGot, keyValueGot, entriesGot, contentGot};
 ghost use Rattle.log_item.specs.Answers.{headGot, tailGot, itemGot, passItem};
 use entries::read_first_index;
+
+// Where bytes stand in the body.
+pub struct Span {
+    pub at: usize,
+    pub len: usize,
+}
+
+// Which spellings of a number are taken: any permitted one, or the shortest alone.
+pub enum Form {
+    Any,
+    Plain,
+}
+
+// A number or a byte, and the place after it; or why it is refused.
+pub enum Field {
+    Done { value: u64, next: usize },
+    Refused(u32),
+}
+
+// A span, and the place after it; or why it is refused.
+pub enum SpanRead {
+    Done { span: Span, next: usize },
+    Refused(u32),
+}
 
 // A group's log is cleaned, or compacted up to an index.
 pub enum Command {
@@ -77,6 +100,16 @@ pub enum ItemRead {
     Refused(u32),
 }
 
+// The place after an item, and the total and the number of entries after it; or why it is refused.
+pub enum Passed {
+    Done {
+        next: usize,
+        total: u32,
+        used: usize,
+    },
+    Refused(u32),
+}
+
 // An item up to its tails, and the place after that; or why it is refused.
 pub enum HeadRead {
     Done { item: LogItem, next: usize },
@@ -112,6 +145,12 @@ pub enum ItemWrote {
 enum TailsSize {
     Fine { len: usize, total: u32 },
     TooLarge,
+}
+
+// The place after a piece that has no entries; or why it is refused.
+enum Skipped {
+    After(usize),
+    Refused(u32),
 }
 
 enum CommandRead {

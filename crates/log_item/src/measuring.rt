@@ -10,7 +10,7 @@ use crate::KeyValue;
 use crate::LogItem;
 use crate::LogItemContent;
 use crate::Op;
-use field::Span;
+use crate::Span;
 
 pub(crate) fn head_len(item: LogItem) -> usize
     ensures { λ r. ⌜ r ≡ fitted (headLength item) ⌝ }

@@ -3,16 +3,16 @@ ghost use mathlib.Core.Path.{_≡_};
 ghost use mathlib.Core.Bool.{_&&_};
 ghost use Prim.Native.Nat.{_+_};
 ghost use lib.Dec.{leb};
-ghost use Rattle.field.specs.Prefix.{prefix, begins, bytesOf};
+ghost use Rattle.log_item.specs.Prefix.{prefix, begins, bytesOf};
 ghost use Rattle.log_item.specs.Refusing.{opInside, contentInside, entriesRefusal, keyRefusal, contentRefusal};
 ghost use Rattle.log_item.specs.Written.{pieceRefusal};
 use crate::EntryIndexes;
 use crate::KeyValue;
 use crate::LogItemContent;
 use crate::Op;
-use field::Span;
-use field::is_internal_key;
-use field::lies_in;
+use crate::Span;
+use crate::prefix::is_internal_key;
+use crate::prefix::lies_in;
 
 // The first refusal of a content but 16, or 0.
 pub(crate) fn content_refusal(

@@ -7,9 +7,8 @@ ghost use mathlib.Core.List.{[], _∷_};
 ghost use Prim.Native.Nat.{_≤_};
 ghost use lib.ListN.{length, take};
 ghost use Rattle.log_item.specs.Entries.{typeOf};
-ghost use Rattle.field.specs.Prefix.{bytesOf};
+ghost use Rattle.log_item.specs.Prefix.{bytesOf, inside};
 ghost use Rattle.log_item.specs.Bytes.{spanBytes, commandBytes, entriesBytes, opBytes, contentBytes, headBytes, tailsBytes};
-ghost use Rattle.field.specs.Prefix.{inside};
 ghost use Rattle.log_item.specs.Refusing.{opInside, contentInside};
 ghost use Rattle.log_item.specs.Written.{measureItem, PieceWritten, ItemWritten, sumOf};
 ghost use Rattle.log_item.specs.Private.{Room, Stored, tailsSize};
@@ -22,6 +21,7 @@ use crate::LogItem;
 use crate::LogItemContent;
 use crate::Op;
 use crate::PartWrote;
+use crate::Span;
 use crate::TailsSize;
 use crate::measuring::command_len;
 use crate::measuring::entries_len;
@@ -34,7 +34,6 @@ use crate::refusing::has_room;
 use crate::refusing::op_inside;
 use crate::refusing::piece_refusal;
 use codec::Wrote;
-use field::Span;
 
 impl LogItem {
     // What writing an item takes, where items before it use `used` of the `rows` that are lent; put keys are looked at where `checked`.

@@ -7,18 +7,18 @@ use borrow.Author.Tests.{ne-eqb}
 use lib.ListN.{getD}
 use Rattle.refusal.proofs.First.{other-answer}
 use Rattle.refusal.specs.declared.Refusal.{Refusal}
-use Rattle.field.specs.declared.Span.{Span}
+use Rattle.log_item.specs.declared.Span.{Span}
 use Rattle.log_item.specs.declared.LogItem.{LogItem}
 use Rattle.item_row.specs.declared.ItemRowRead.{ItemRowRead}
 use Rattle.item_row.specs.declared.ItemRowRead.the-variants.{Item, Refused}
 use Rattle.item_row.specs.Row.{rowItem, itemOfRow}
-use Rattle.atomic_status.specs.declared.AtomicGroupStatus.{AtomicGroupStatus}
-use Rattle.atomic_status.specs.declared.StatusRead.{StatusRead}
-use Rattle.atomic_status.specs.declared.StatusRead.the-variants.{Mark}
-use Rattle.atomic_status.specs.Status.{statusOf}
-use Rattle.entry_view.specs.View.{entryCheck}
-use Rattle.body_check.specs.declared.BodyCheck.{BodyCheck}
-use Rattle.body_check.specs.declared.BodyCheck.the-variants as check
+use Rattle.log_batch.specs.declared.AtomicGroupStatus.{AtomicGroupStatus}
+use Rattle.log_batch.specs.declared.StatusRead.{StatusRead}
+use Rattle.log_batch.specs.declared.StatusRead.the-variants.{Mark}
+use Rattle.log_batch.specs.Status.{statusOf}
+use Rattle.log_batch.specs.View.{entryCheck}
+use Rattle.log_batch.specs.declared.BodyCheck.{BodyCheck}
+use Rattle.log_batch.specs.declared.BodyCheck.the-variants as check
 use Rattle.item_row.specs.Reply.{Reply, reply}
 use Rattle.raft_log.specs.Answers.{batchReply, queueCheck, viewOf, markWord, statusReply, rowStatus}
 

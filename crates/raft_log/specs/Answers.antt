@@ -9,21 +9,21 @@ use lib.ListN.{getD}
 use Rattle.refusal.specs.First.{ifNone}
 use Rattle.words.specs.declared.Wrote.{Wrote}
 use Rattle.words.specs.declared.Wrote.the-variants as wrote
-use Rattle.field.specs.declared.Span.{Span}
-use Rattle.field.specs.Got.{Got, got, refused}
+use Rattle.log_item.specs.declared.Span.{Span}
+use Rattle.log_item.specs.Got.{Got, got, refused}
 use Rattle.item_row.specs.declared.ItemRowRead.{ItemRowRead}
 use Rattle.item_row.specs.declared.ItemRowRead.the-variants as row
-use Rattle.body_check.specs.declared.BodyCheck.{BodyCheck}
-use Rattle.body_check.specs.declared.BodyCheck.the-variants as check
-use Rattle.body_check.specs.declared.PlainForm.{PlainForm}
-use Rattle.body_check.specs.declared.PlainForm.the-variants as plain
+use Rattle.log_batch.specs.declared.BodyCheck.{BodyCheck}
+use Rattle.log_batch.specs.declared.BodyCheck.the-variants as check
+use Rattle.log_batch.specs.declared.PlainForm.{PlainForm}
+use Rattle.log_batch.specs.declared.PlainForm.the-variants as plain
 use Rattle.log_batch.specs.declared.LogBatch.{LogBatch}
-use Rattle.atomic_status.specs.declared.AtomicGroupStatus.{AtomicGroupStatus}
-use Rattle.atomic_status.specs.declared.AtomicGroupStatus.the-variants.{Begin, Middle, End}
-use Rattle.atomic_status.specs.declared.StatusRead.{StatusRead}
-use Rattle.atomic_status.specs.declared.StatusRead.the-variants as status
-use Rattle.atomic_status.specs.Status.{statusOf}
-use Rattle.entry_view.specs.View.{entryCheck}
+use Rattle.log_batch.specs.declared.AtomicGroupStatus.{AtomicGroupStatus}
+use Rattle.log_batch.specs.declared.AtomicGroupStatus.the-variants.{Begin, Middle, End}
+use Rattle.log_batch.specs.declared.StatusRead.{StatusRead}
+use Rattle.log_batch.specs.declared.StatusRead.the-variants as status
+use Rattle.log_batch.specs.Status.{statusOf}
+use Rattle.log_batch.specs.View.{entryCheck}
 use Rattle.list_writer.specs.declared.Encoded.{Encoded}
 use Rattle.item_row.specs.Reply.{Reply, reply}
 

@@ -15,22 +15,22 @@ ghost use mathlib.Core.Path.{_≡_};
 ghost use Rattle.crc.specs.Crc.{crcOf};
 ghost use Rattle.numbers.specs.Shortest.{shortest};
 ghost use Rattle.words.specs.Write.{wroteAt, placed};
-ghost use Rattle.field.specs.Reading.{anyNumber};
+ghost use Rattle.log_item.specs.Pieces.{anyNumber};
 ghost use Rattle.item_row.specs.Row.{itemOfRow};
-ghost use Rattle.body_check.specs.Body.{readBody};
-ghost use Rattle.body_check.specs.Answers.{checkOf, plainBody};
+ghost use Rattle.log_batch.specs.Body.{readBody};
+ghost use Rattle.log_batch.specs.Answers.{checkOf, plainBody};
 ghost use Rattle.log_batch.specs.Header.{header};
 ghost use Rattle.item_row.specs.Reply.{reply};
 ghost use Rattle.raft_log.specs.Answers.{numberReply, wroteReply, headerReply, checkReply, plainReply, queueCheck, viewOf, statusReply, rowStatus};
-use atomic_status::AtomicGroupStatus;
-use atomic_status::StatusRead;
-use body_check::BodyCheck;
-use body_check::PlainForm;
 use codec::NumberRead;
 use codec::Wrote;
 use item_row::ItemRowRead;
+use log_batch::AtomicGroupStatus;
+use log_batch::BodyCheck;
 use log_batch::HeaderRead;
 use log_batch::LogBatch;
+use log_batch::PlainForm;
+use log_batch::StatusRead;
 
 // The checksum.
 #[no_mangle]
@@ -109,7 +109,7 @@ pub extern "C" fn raft_log_read_header(data: &[u8], answer: &mut [u64; 3]) -> u3
 pub extern "C" fn raft_log_check_body(body: &[u8], signature: u32, answer: &mut [u64; 5]) -> u32
     ensures { λ r. ⌜ reply r (now (answer .exit)) ≡ checkReply (checkOf (readBody (now (body .entry)) signature)) ⌝ }
 {
-    let r = body_check::check(body, signature);
+    let r = log_batch::check(body, signature);
     put_check(r, answer)
 }
 
@@ -138,7 +138,7 @@ fn put_check(check: BodyCheck, answer: &mut [u64; 5]) -> u32
 pub extern "C" fn raft_log_is_plain(body: &[u8], signature: u32, answer: &mut [u64; 2]) -> u32
     ensures { λ r. ⌜ reply r (now (answer .exit)) ≡ plainReply (plainBody (now (body .entry)) signature) ⌝ }
 {
-    match body_check::plain(body, signature) {
+    match log_batch::plain(body, signature) {
         PlainForm::Yes => {
             *answer = [0, 1];
             refusal::NONE
@@ -180,10 +180,10 @@ fn check_view(queue: u64, long: u64, offset: u64, len: u64, append: &[u8], rewri
     ensures { λ r. ⌜ r ≡ queueCheck queue long offset len (now (append .entry)) (now (rewrite .entry)) ⌝ }
 {
     if queue == 0 {
-        return entry_view::check_entry(append, long, offset, len);
+        return log_batch::check_entry(append, long, offset, len);
     }
     if queue == 1 {
-        return entry_view::check_entry(rewrite, long, offset, len);
+        return log_batch::check_entry(rewrite, long, offset, len);
     }
     refusal::TABLE_BROKEN
 }

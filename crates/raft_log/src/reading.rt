@@ -1,13 +1,13 @@
 // Bodies and batches, read into rows of words that the caller lends.
 ghost use mathlib.Core.Path.{_≡_};
-ghost use Rattle.body_check.specs.Body.{readBody};
+ghost use Rattle.log_batch.specs.Body.{readBody};
 ghost use Rattle.rows_reader.specs.Lent.{RowsRead};
 ghost use Rattle.batch_rows.specs.Rows.{BatchReadInto};
 ghost use Rattle.item_row.specs.Reply.{reply};
 ghost use Rattle.raft_log.specs.Answers.{Replied, checkReply, batchReply};
 use crate::put_check;
 use batch_rows::BatchCheck;
-use body_check::BodyCheck;
+use log_batch::BodyCheck;
 
 // A body, read into rows.
 #[no_mangle]

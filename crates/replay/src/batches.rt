@@ -1,10 +1,10 @@
 // Headers, whole batches written, blocks, and status marks.
 use crate::input;
-use atomic_status::AtomicGroupStatus;
-use atomic_status::StatusRead;
-use item_batch::LogItemBatch;
+use log_batch::AtomicGroupStatus;
 use log_batch::HeaderRead;
 use log_batch::LogBatch;
+use log_batch::LogItemBatch;
+use log_batch::StatusRead;
 use log_item::ItemRead;
 use log_item::LogItem;
 use pipe_log::Location;
@@ -36,7 +36,7 @@ pub(crate) fn written(line: &[u8]) -> bool {
     let m = input::bytes(line, 3, &mut content);
     let n = input::bytes(line, 4, &mut buf);
     let bytes = input::front(&buf, n);
-    let table = item_batch::read_items(bytes);
+    let table = log_batch::read_items(bytes);
     let why = table.refusal;
     if why.number != refusal::NONE {
         return false;
@@ -95,7 +95,7 @@ fn content_len(length: u64) -> u32 {
 
 fn content<'a>(line: &[u8], row: Location, append: &'a [u8], rewrite: &'a [u8]) -> bool {
     let mut number: u32 = 255;
-    let bytes = entry_view::entry_view(row, append, rewrite, &mut number);
+    let bytes = log_batch::entry_view(row, append, rewrite, &mut number);
     if number == refusal::NONE {
         input::is_bytes(line, 5, bytes)
     } else {

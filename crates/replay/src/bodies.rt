@@ -2,7 +2,7 @@
 use crate::input;
 use crate::items;
 use codec::Wrote;
-use item_batch::LogItemBatch;
+use log_batch::LogItemBatch;
 use log_item::EntryIndex;
 use log_item::EntryIndexes;
 use log_item::Form;
@@ -180,7 +180,7 @@ pub(crate) fn written(line: &[u8]) -> bool {
     let mut out = [0u8; 512];
     let n = input::bytes(line, 3, &mut buf);
     let bytes = input::front(&buf, n);
-    let table = item_batch::read_items(bytes);
+    let table = log_batch::read_items(bytes);
     let why = table.refusal;
     if why.number != refusal::NONE {
         return false;

@@ -8,18 +8,18 @@ use native.Mathlib.Omega.{arith}
 use borrow.Author.Tests.{le-leb, lt-leb, eq-eqb, ne-eqb}
 use lib.ListN.{length}
 use Rattle.refusal.specs.declared.Refusal.{Refusal}
-use Rattle.field.specs.declared.Form.the-variants.{Any}
+use Rattle.log_item.specs.declared.Form.the-variants.{Any}
 use Rattle.log_item.specs.declared.LogItem.{LogItem}
 use Rattle.log_item.specs.declared.EntryIndex.{EntryIndex}
 use Rattle.item_row.specs.Row.{itemRowCount, entryRowCount}
-use Rattle.body_check.specs.declared.BodyCheck.{BodyCheck}
-use Rattle.body_check.specs.declared.BodyCheck.the-variants.{Accepted, Refused}
-use Rattle.body_check.specs.declared.Wanted.{Wanted}
-use Rattle.body_check.specs.declared.Wanted.the-variants.{Free, Exactly}
-use Rattle.body_check.specs.Reading.{Answer, accepted, rejected, readItems}
-use Rattle.body_check.specs.Answers.{checkOf}
-use Rattle.body_check.proofs.Checking.{told, refusal-told}
-use Rattle.body_check.specs.Total.{agreeing}
+use Rattle.log_batch.specs.declared.BodyCheck.{BodyCheck}
+use Rattle.log_batch.specs.declared.BodyCheck.the-variants.{Accepted, Refused}
+use Rattle.log_batch.specs.declared.Wanted.{Wanted}
+use Rattle.log_batch.specs.declared.Wanted.the-variants.{Free, Exactly}
+use Rattle.log_batch.specs.Reading.{Answer, accepted, rejected, readItems}
+use Rattle.log_batch.specs.Answers.{checkOf}
+use Rattle.log_batch.proofs.Checking.{told, refusal-told}
+use Rattle.log_batch.specs.Total.{agreeing}
 use Rattle.rows_reader.specs.Lent.{Filled, RowsRead}
 use Rattle.rows_reader.specs.Private.{Fits}
 

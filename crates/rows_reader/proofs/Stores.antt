@@ -5,7 +5,7 @@ use mathlib.Core.Path.{_≡_}
 use mathlib.Core.List.{List, [], _∷_}
 use native.Mathlib.Omega.{arith}
 use lib.ListN.{set}
-use Rattle.field.specs.declared.Span.{Span}
+use Rattle.log_item.specs.declared.Span.{Span}
 use Rattle.log_item.specs.declared.Command.{Command}
 use Rattle.log_item.specs.declared.Command.the-variants.{Clean, Compact}
 use Rattle.log_item.specs.declared.Op.the-variants.{Put, Del}

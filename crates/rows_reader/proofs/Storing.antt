@@ -17,11 +17,11 @@ use Rattle.numbers.specs.Number.{readNumber}
 use Rattle.numbers.specs.declared.NumberRead.{NumberRead}
 use Rattle.numbers.specs.declared.NumberRead.the-variants.{Done}
 use Rattle.numbers.proofs.NumberRead.{the-type}
-use Rattle.field.specs.Got.{got, refused}
+use Rattle.log_item.specs.Got.{got, refused}
 use Rattle.log_item.specs.Entries.{entriesOf}
 use Rattle.log_item.specs.Reading.{head, tail}
 use Rattle.log_item.specs.Blank.{blankItem, blankEntry}
-use Rattle.field.specs.declared.Form.the-variants.{Any}
+use Rattle.log_item.specs.declared.Form.the-variants.{Any}
 use Rattle.log_item.specs.declared.LogItem.{LogItem}
 use Rattle.log_item.specs.declared.EntryIndex.{EntryIndex}
 use Rattle.log_item.specs.declared.EntryIndexes.{EntryIndexes}
@@ -29,12 +29,12 @@ use Rattle.item_row.specs.Row.{itemWords, entryWords, itemsWords, entriesWords}
 use Rattle.item_row.proofs.Words.{item-length, items-length, entries-length, flat-more}
 use Rattle.log_item.specs.Private.{Stored}
 use Rattle.log_item.proofs.Stores.{stored-none, stored-then, stored-length, stored-same}
-use Rattle.field.proofs.Fields.{number-any, number-broken}
-use Rattle.body_check.specs.Reading.{Answer, accepted, rejected, readItems}
-use Rattle.body_check.proofs.Checking.{count-broken, count-many}
-use Rattle.item_batch.proofs.Rows.{rows-take, rows-length}
-use Rattle.item_batch.proofs.Coming.{prepend, rowOf, rest}
-use Rattle.item_batch.proofs.Filling.{Filling, not-done, begun, next-row, row-refused, ended, next-item, item-refused}
+use Rattle.log_item.proofs.Smallest.{number-any, number-broken}
+use Rattle.log_batch.specs.Reading.{Answer, accepted, rejected, readItems}
+use Rattle.log_batch.proofs.Checking.{count-broken, count-many}
+use Rattle.log_batch.proofs.Rows.{rows-take, rows-length}
+use Rattle.log_batch.proofs.Coming.{prepend, rowOf, rest}
+use Rattle.log_batch.proofs.Filling.{Filling, not-done, begun, next-row, row-refused, ended, next-item, item-refused}
 use Rattle.rows_reader.specs.Lent.{Filled}
 use Rattle.rows_reader.specs.Private.{Words, Fits}
 

@@ -7,9 +7,9 @@ use mathlib.Core.List.{List, _++_}
 use lib.Dec.{leb}
 use lib.ListN.{length, drop}
 use Rattle.item_row.specs.Row.{itemRowCount, entryRowCount, itemsWords, entriesWords}
-use Rattle.body_check.specs.declared.BodyCheck.{BodyCheck}
-use Rattle.body_check.specs.Reading.{Answer, accepted, rejected}
-use Rattle.body_check.specs.Answers.{checkOf}
+use Rattle.log_batch.specs.declared.BodyCheck.{BodyCheck}
+use Rattle.log_batch.specs.Reading.{Answer, accepted, rejected}
+use Rattle.log_batch.specs.Answers.{checkOf}
 
 -- an answer that has more rows than are lent is a 21
 abbrev pub fitting : List ℕ → List ℕ → Answer → Answer

@@ -5,10 +5,10 @@ use mathlib.Core.Path.{_≡_}
 use mathlib.Core.List.{List}
 use lib.ListN.{length}
 use lib.Seq.{sets}
-use Rattle.field.specs.declared.Form.the-variants.{Any}
+use Rattle.log_item.specs.declared.Form.the-variants.{Any}
 use Rattle.log_item.specs.declared.LogItem.{LogItem}
 use Rattle.log_item.specs.declared.EntryIndex.{EntryIndex}
-use Rattle.body_check.specs.Reading.{accepted, readItems}
+use Rattle.log_batch.specs.Reading.{accepted, readItems}
 
 -- Words are stored from a place on.
 pub record Words (rows : List ℕ) (at : ℕ) (words later : List ℕ) : Type 0 where

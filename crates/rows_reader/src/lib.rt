@@ -4,16 +4,16 @@ ghost use mathlib.Core.Path.{_≡_};
 ghost use mathlib.Core.List.{[], _∷_};
 ghost use Prim.Native.Nat.{_+_, _≤_};
 ghost use lib.ListN.{length};
-ghost use Rattle.field.specs.declared.Form.the-variants.{Any};
+ghost use Rattle.log_item.specs.declared.Form.the-variants.{Any};
 ghost use Rattle.item_row.specs.Row.{itemWords, keyWords};
-ghost use Rattle.body_check.specs.Reading.{readItems};
-ghost use Rattle.body_check.specs.Total.{agreeing};
-ghost use Rattle.body_check.specs.Body.{readBody};
+ghost use Rattle.log_batch.specs.Reading.{readItems};
+ghost use Rattle.log_batch.specs.Total.{agreeing};
+ghost use Rattle.log_batch.specs.Body.{readBody};
 ghost use Rattle.rows_reader.specs.Lent.{Filled, RowsRead};
 ghost use Rattle.rows_reader.specs.Private.{Words, Fits};
-use body_check::BodyCheck;
-use body_check::Wanted;
 use codec::NumberRead;
+use log_batch::BodyCheck;
+use log_batch::Wanted;
 use log_item::Command;
 use log_item::EntryIndexes;
 use log_item::Form;
@@ -30,7 +30,7 @@ use refusal::Refusal;
 pub fn read_items(buf: &[u8], wanted: Wanted, items: &mut [u64], entries: &mut [u64]) -> BodyCheck
     ensures { λ r. ⌜ RowsRead (agreeing wanted (readItems Any (now (buf .entry)))) (now (items .entry)) (now (entries .entry)) r (now (items .exit)) (now (entries .exit)) ⌝ }
 {
-    match body_check::check_items(buf) {
+    match log_batch::check_items(buf) {
         BodyCheck::Refused(refusal) => BodyCheck::Refused(refusal),
         BodyCheck::Accepted {
             items: many,
@@ -64,7 +64,7 @@ pub fn read_items(buf: &[u8], wanted: Wanted, items: &mut [u64], entries: &mut [
 pub fn read_body(body: &[u8], signature: u32, items: &mut [u64], entries: &mut [u64]) -> BodyCheck
     ensures { λ r. ⌜ RowsRead (readBody (now (body .entry)) signature) (now (items .entry)) (now (entries .entry)) r (now (items .exit)) (now (entries .exit)) ⌝ }
 {
-    let broken = seal::check_seal(body, signature);
+    let broken = log_batch::check_seal(body, signature);
     if broken != refusal::NONE {
         return refuse(broken);
     }

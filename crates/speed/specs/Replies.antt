@@ -3,8 +3,8 @@
 use Prim.Native.Nat.{ℕ}
 use mathlib.Core.List.{[], _∷_}
 use Rattle.item_row.specs.Reply.{Reply, reply}
-use Rattle.body_check.specs.declared.BodyCheck.{BodyCheck}
-use Rattle.body_check.specs.declared.BodyCheck.the-variants as check
+use Rattle.log_batch.specs.declared.BodyCheck.{BodyCheck}
+use Rattle.log_batch.specs.declared.BodyCheck.the-variants as check
 use Rattle.item_reader.specs.declared.EntryRows.{EntryRows}
 use Rattle.item_reader.specs.declared.Next.{Next}
 use Rattle.item_reader.specs.declared.Next.the-variants as next

@@ -2,18 +2,18 @@
 //
 // Each function returns 0, a refusal's number or END, and sets `answer` at each call.
 ghost use mathlib.Core.Path.{_≡_};
-ghost use Rattle.seal.specs.Seal.{sealedPart};
-ghost use Rattle.field.specs.declared.Form.the-variants.{Any};
-ghost use Rattle.body_check.specs.Reading.{readItems};
-ghost use Rattle.body_check.specs.Answers.{checkOf};
+ghost use Rattle.log_batch.specs.Seal.{sealedPart};
+ghost use Rattle.log_item.specs.declared.Form.the-variants.{Any};
+ghost use Rattle.log_batch.specs.Reading.{readItems};
+ghost use Rattle.log_batch.specs.Answers.{checkOf};
 ghost use Rattle.item_row.specs.Reply.{reply};
 ghost use Rattle.item_reader.specs.Rows.{nextRow};
 ghost use Rattle.item_reader.specs.Reader.{opened, nthOf};
 ghost use Rattle.speed.specs.Replies.{countReply, rowsReply, nthReply, rowReply};
-use body_check::BodyCheck;
 use item_reader::EntryRows;
 use item_reader::Next;
 use item_reader::RowRead;
+use log_batch::BodyCheck;
 
 // Nothing is left; no refusal has this number.
 const END: u32 = 100;
@@ -23,7 +23,7 @@ const END: u32 = 100;
 pub extern "C" fn speed_check_items(body: &[u8], answer: &mut [u64; 1]) -> u32
     ensures { λ r. ⌜ reply r (now (answer .exit)) ≡ countReply (checkOf (readItems Any (now (body .entry)))) ⌝ }
 {
-    match body_check::check_items(body) {
+    match log_batch::check_items(body) {
         BodyCheck::Accepted {
             items,
             entries: _,

@@ -9,8 +9,8 @@ use Rattle.refusal.specs.First.{ifNone}
 use Rattle.list_writer.specs.declared.Encoded.{Encoded}
 use Rattle.list_writer.specs.Bytes.{bodyBytes}
 use Rattle.list_writer.specs.Answers.{encoded, laid}
-use Rattle.item_batch.specs.declared.LogItemBatch.{LogItemBatch}
-use Rattle.item_batch.specs.Writing.{BodyWritten, listed, tableLengths}
+use Rattle.log_batch.specs.declared.LogItemBatch.{LogItemBatch}
+use Rattle.log_batch.specs.Writing.{BodyWritten, listed, tableLengths}
 use Rattle.item_row.specs.Reply.{reply}
 use Rattle.speed_tables.specs.Again.{again, lengthReply, WrittenAgain}
 

@@ -9,8 +9,8 @@ use Rattle.list_writer.specs.declared.Encoded.{Encoded}
 use Rattle.list_writer.specs.Bytes.{bodyBytes}
 use Rattle.list_measure.specs.Answers.{measureOf}
 use Rattle.list_writer.specs.Answers.{encoded, encodedOf, laid}
-use Rattle.item_batch.specs.declared.LogItemBatch.{LogItemBatch}
-use Rattle.item_batch.specs.Writing.{listed, tableLengths}
+use Rattle.log_batch.specs.declared.LogItemBatch.{LogItemBatch}
+use Rattle.log_batch.specs.Writing.{listed, tableLengths}
 use Rattle.item_row.specs.Reply.{Reply, reply}
 
 -- the table's refusal, or 0, and items, entries, entry total, place after the last item

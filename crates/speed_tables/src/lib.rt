@@ -3,11 +3,11 @@
 //
 // Each function returns 0 or a refusal's number, and sets `answer` at each call.
 ghost use mathlib.Core.Path.{_≡_};
-ghost use Rattle.body_check.specs.Body.{readBody};
+ghost use Rattle.log_batch.specs.Body.{readBody};
 ghost use Rattle.item_row.specs.Reply.{reply};
-ghost use Rattle.item_batch.specs.Table.{bodyTable};
+ghost use Rattle.log_batch.specs.Table.{bodyTable};
 ghost use Rattle.speed_tables.specs.Again.{tableReply, WrittenAgain};
-use item_batch::LogItemBatch;
+use log_batch::LogItemBatch;
 
 // A body, read into a table by value: its items, its entries, the entry total, and the place after the last item.
 #[no_mangle]

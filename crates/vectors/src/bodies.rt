@@ -2,11 +2,11 @@
 use crate::input;
 use crate::tables;
 use crate::text;
-use body_check::BodyCheck;
-use body_check::PlainForm;
 use codec::Wrote;
-use item_batch::LogItemBatch;
+use log_batch::BodyCheck;
 use log_batch::LogBatch;
+use log_batch::LogItemBatch;
+use log_batch::PlainForm;
 
 // A body or a whole batch, read into a table.
 pub(crate) fn case(line: &[u8]) {
@@ -44,7 +44,7 @@ pub(crate) fn go_over(line: &[u8]) {
     let mut buf = [0u8; 64];
     let n = input::bytes(line, 2, &mut buf);
     input::start(line);
-    counts(body_check::check_items(text::front(&buf, n)));
+    counts(log_batch::check_items(text::front(&buf, n)));
     text::end();
 }
 
@@ -70,7 +70,7 @@ pub(crate) fn plain(line: &[u8]) {
     let mut buf = [0u8; 64];
     let n = input::bytes(line, 2, &mut buf);
     input::start(line);
-    form(body_check::plain(text::front(&buf, n), 0));
+    form(log_batch::plain(text::front(&buf, n), 0));
     text::end();
 }
 

@@ -11,7 +11,7 @@
 //     start I N      where the content of item I stands, where it is a put
 //     value I N      the length of that content
 use crate::input;
-use item_batch::LogItemBatch;
+use log_batch::LogItemBatch;
 use log_item::EntryIndex;
 use log_item::EntryIndexes;
 use log_item::KeyValue;

@@ -1,8 +1,8 @@
 // The status that an item marks.
 use crate::input;
 use crate::text;
-use atomic_status::AtomicGroupStatus;
-use atomic_status::StatusRead;
+use log_batch::AtomicGroupStatus;
+use log_batch::StatusRead;
 use log_item::ItemRead;
 use log_item::LogItem;
 use refusal::Refusal;

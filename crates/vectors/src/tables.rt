@@ -1,7 +1,7 @@
 // The line of a table: its counts, the entry total, the place after the last item, the spans of body and block, items and entries. A
 // refused one has its refusal first, and no rows.
 use crate::text;
-use item_batch::LogItemBatch;
+use log_batch::LogItemBatch;
 use log_item::Command;
 use log_item::EntryIndex;
 use log_item::EntryIndexes;

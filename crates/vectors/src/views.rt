@@ -32,7 +32,7 @@ fn row(line: &[u8]) -> Location {
 
 fn view<'a>(row: Location, append: &'a [u8], rewrite: &'a [u8]) {
     let mut number: u32 = 255;
-    let bytes = entry_view::entry_view(row, append, rewrite, &mut number);
+    let bytes = log_batch::entry_view(row, append, rewrite, &mut number);
     text::number(number as u64);
     text::number(bytes.len() as u64);
     if 0 < bytes.len() {

@@ -5,9 +5,9 @@ use crate::edits;
 use crate::input;
 use crate::tables;
 use crate::text;
-use item_batch::LogItemBatch;
 use list_writer::Encoded;
 use log_batch::LogBatch;
+use log_batch::LogItemBatch;
 
 pub(crate) fn case(line: &[u8]) {
     let mut body = [0u8; 2048];
@@ -30,7 +30,7 @@ pub(crate) fn case(line: &[u8]) {
 
 // Writes the table of a body, edited, into the first `room` bytes of out, or into all where there are fewer.
 fn write(words: &[u8], body: &[u8], content: &[u8], out: &mut [u8], room: usize) -> Encoded {
-    let table = edits::edited(words, item_batch::read_items(body));
+    let table = edits::edited(words, log_batch::read_items(body));
     if room < out.len() {
         encode(words, table, body, content, &mut out[..room])
     } else {

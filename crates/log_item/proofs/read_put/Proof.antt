@@ -1,7 +1,7 @@
 -- `log_item::read_put` meets its contract.
 -- Assumes nothing.
-use Rattle.field.specs.Answers.{spanGot}
-use Rattle.field.proofs.Fields.{learnt}
+use Rattle.log_item.specs.Answers.{spanGot}
+use Rattle.log_item.proofs.Smallest.{learnt}
 use Rattle.log_item.proofs.Fields.{put-done, put-short, put-refused}
 use borrow.Author.Needs.{needs}
 use Rattle.log_item.proofs.read_put.Statement.{statement}

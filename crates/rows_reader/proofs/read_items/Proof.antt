@@ -1,7 +1,7 @@
 -- `rows_reader::read_items` meets its contract: the checking pass decides, and the rows are filled where they fit.
 -- Assumes nothing.
-use Rattle.body_check.specs.Reading.{readItems}
-use Rattle.field.specs.declared.Form.the-variants.{Any}
+use Rattle.log_batch.specs.Reading.{readItems}
+use Rattle.log_item.specs.declared.Form.the-variants.{Any}
 use denote.Ref.{now}
 use Rattle.rows_reader.proofs.Reading.{left, kept, agreed-free, agreed-same, differs, short-items, short-entries, fits, read}
 use mathlib.Core.Logic.{⊎-elim}

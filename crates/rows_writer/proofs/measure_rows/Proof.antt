@@ -12,7 +12,6 @@ use native.Mathlib.Omega.{arith}
 use mathlib.Core.Path.{_≡_, refl, sym, ap, _∙_}
 use Prim.Native.Nat.{_≤_, _-_, _+_, _*_}
 use lib.ListN.{length}
-use mathlib.Core.Path.{_≡_}
 use Rattle.rows_writer.proofs.measure_rows.Statement.{statement}
 use Rattle.rows_writer.proofs.measure_rows.Tie as tie
 

@@ -1,6 +1,6 @@
 -- `log_batch::LogBatch::check_frame` meets its contract.
 -- Assumes nothing.
-use Rattle.field.proofs.Fields.{learnt}
+use Rattle.log_item.proofs.Smallest.{learnt}
 use Rattle.log_batch.specs.Header.{headerGot}
 use denote.Ref.{now}
 use Rattle.log_batch.proofs.Frames.{front-known, batch-refused, batch-broken, batch-good}

@@ -1,7 +1,7 @@
 -- `log_item::Command::decode` meets its contract.
 -- Assumes nothing.
-use Rattle.field.specs.Answers.{fieldGot}
-use Rattle.field.proofs.Fields.{learnt}
+use Rattle.log_item.specs.Answers.{fieldGot}
+use Rattle.log_item.proofs.Smallest.{learnt}
 use Rattle.log_item.proofs.Fields.{command-clean, command-compact, command-short, command-unknown, command-refused}
 use borrow.Author.Needs.{needs}
 use Rattle.log_item.proofs.Command.decode.Statement.{statement}

@@ -1,8 +1,8 @@
 -- `log_item::EntryIndexes::decode` meets its contract.
 -- Assumes nothing.
-use Rattle.field.specs.Answers.{fieldGot}
+use Rattle.log_item.specs.Answers.{fieldGot}
 use mathlib.Core.Path.{_∙_}
-use Rattle.field.proofs.Fields.{learnt}
+use Rattle.log_item.proofs.Smallest.{learnt}
 use Rattle.log_item.proofs.Parts.{entries-many, entries-first, entries-refused}
 use native.Mathlib.Omega.{arith}
 use borrow.Author.Needs.{needs}

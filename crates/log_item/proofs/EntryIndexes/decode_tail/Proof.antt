@@ -1,7 +1,7 @@
 -- `log_item::EntryIndexes::decode_tail` meets its contract.
 -- Assumes nothing.
-use Rattle.field.specs.Answers.{fieldGot}
-use Rattle.field.proofs.Fields.{learnt}
+use Rattle.log_item.specs.Answers.{fieldGot}
+use Rattle.log_item.proofs.Smallest.{learnt}
 use Rattle.log_item.proofs.Parts.{tail-large, tail-falls, tail-done, tail-refused}
 use native.Mathlib.Omega.{arith}
 use borrow.Author.Needs.{needs}

@@ -1,8 +1,8 @@
 -- `log_item::KeyValue::decode` meets its contract.
 -- Assumes nothing.
-use Rattle.field.specs.Answers.{fieldGot, spanGot}
+use Rattle.log_item.specs.Answers.{fieldGot, spanGot}
 use mathlib.Core.Path.{_∙_}
-use Rattle.field.proofs.Fields.{learnt}
+use Rattle.log_item.proofs.Smallest.{learnt}
 use Rattle.log_item.proofs.Fields.{key-put, key-delete, key-short, key-unknown, key-refused}
 use borrow.Author.Needs.{needs}
 use Rattle.log_item.proofs.KeyValue.decode.Statement.{statement}

@@ -1,8 +1,8 @@
 -- `log_item::LogItem::decode_head` meets its contract.
 -- Assumes nothing.
-use Rattle.field.specs.Answers.{fieldGot}
+use Rattle.log_item.specs.Answers.{fieldGot}
 use Rattle.log_item.specs.Private.{contentGot}
-use Rattle.field.proofs.Fields.{learnt}
+use Rattle.log_item.proofs.Smallest.{learnt}
 use Rattle.log_item.proofs.Parts.{head-done, head-no-content, head-no-type, head-refused}
 use borrow.Author.Needs.{needs}
 use Rattle.log_item.proofs.LogItem.decode_head.Statement.{statement}

@@ -1,7 +1,7 @@
 -- `log_item::entries::read_first_index` meets its contract.
 -- Assumes nothing.
-use Rattle.field.specs.Answers.{fieldGot}
-use Rattle.field.proofs.Fields.{learnt}
+use Rattle.log_item.specs.Answers.{fieldGot}
+use Rattle.log_item.proofs.Smallest.{learnt}
 use Rattle.log_item.proofs.Parts.{first-none, first-done, first-too-large, first-refused}
 use native.Mathlib.Omega.{arith}
 use borrow.Author.Needs.{needs}

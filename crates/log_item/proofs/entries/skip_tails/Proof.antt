@@ -2,7 +2,7 @@
 -- Assumes nothing.
 use mathlib.Core.Path.{_≡_, refl, _∙_}
 use Rattle.log_item.specs.Answers.{tailGot, passTails}
-use Rattle.field.proofs.Fields.{learnt}
+use Rattle.log_item.proofs.Smallest.{learnt}
 use Rattle.log_item.proofs.Passing.{pass-end, pass-next, pass-stop}
 use borrow.Author.Needs.{needs}
 use native.Mathlib.Omega.{arith}
@@ -18,8 +18,8 @@ abbrev μ-loop : tie.MeasureT-loop
 loop-holds : tie.Need-loop-holds Inv-loop μ-loop
 loop-holds c = refl
 
-decode-tail-requires : tie.Need-decode-tail-requires Inv-loop μ-loop
-decode-tail-requires c κs = search needs
+tail-at-requires : tie.Need-tail-at-requires Inv-loop μ-loop
+tail-at-requires c κs = search needs
 
 enum-known-after : tie.Need-enum-known-after Inv-loop μ-loop
 enum-known-after c = search needs
@@ -33,7 +33,7 @@ loop-less c = search needs
 loop-again : tie.Need-loop-again Inv-loop μ-loop
 loop-again c =
     pass-next _ _ _ _ _ (c .before .before .before .before .loop-test .taken)
-    (learnt tailGot (c .before .before .before .decode-tail .ensures) (c .before .after .given .1)) ∙ c .before .before .before .before .before .loop .inv
+    (learnt tailGot (c .before .before .before .tail-at .ensures) (c .before .after .given .1)) ∙ c .before .before .before .before .before .loop .inv
 
 enum-known-number : tie.Need-enum-known-number Inv-loop μ-loop
 enum-known-number c = search needs
@@ -41,7 +41,7 @@ enum-known-number c = search needs
 returns : tie.Need-returns Inv-loop μ-loop
 returns c =
     pass-stop _ _ _ _ _ (c .before .before .before .before .loop-test .taken)
-    (learnt tailGot (c .before .before .before .decode-tail .ensures) (c .before .number .given .1)) ∙ c .before .before .before .before .before .loop .inv
+    (learnt tailGot (c .before .before .before .tail-at .ensures) (c .before .number .given .1)) ∙ c .before .before .before .before .before .loop .inv
 
 returns-2 : tie.Need-returns-2 Inv-loop μ-loop
 returns-2 c = pass-end _ _ _ _ (omega arith) ∙ c .before .loop .inv
@@ -53,7 +53,7 @@ skip-tails-spec =
     Inv-loop
     μ-loop
     loop-holds
-    decode-tail-requires
+    tail-at-requires
     enum-known-after
     sub-left
     loop-less

@@ -1,3 +1,0 @@
-pub mod Planning
-pub mod Fronts
-pub mod Determined

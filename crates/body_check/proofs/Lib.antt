@@ -1,6 +1,0 @@
-pub mod Bodies
-pub mod Going
-pub mod Checking
-pub mod Refusing
-pub mod Determined
-pub mod Short

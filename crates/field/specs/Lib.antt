@@ -1,4 +1,0 @@
-pub mod Got
-pub mod Reading
-pub mod Answers
-pub mod Prefix

@@ -1,0 +1,17 @@
+-- `log_batch::LogItemBatch::encode` meets its contract.
+-- Assumes nothing.
+use borrow.Author.Needs.{needs}
+use Rattle.log_batch.proofs.LogItemBatch.encode.Statement.{statement}
+use Rattle.log_batch.proofs.LogItemBatch.encode.Tie as tie
+
+encode-requires : tie.Need-encode-requires
+encode-requires c κs = search needs
+
+same-length : tie.Need-same-length
+same-length c = search needs
+
+returns : tie.Need-returns
+returns c = c .before .before .encode .ensures
+
+pub encode-spec : {M : Type 1} → statement M
+encode-spec = tie.close (tie.spec encode-requires same-length returns)

@@ -1,0 +1,211 @@
+-- What a whole batch comes to before it is written: the lengths of its parts, and a law for each answer of the checks.
+-- Assumes nothing.
+use Prim.Native.Nat.{ℕ, _+_, _*_, _≤_, _<_}
+use mathlib.Core.Path.{_≡_, refl, ap, _∙_}
+use mathlib.Core.Logic.{_⊎_, inl, inr}
+use mathlib.Core.Bool.{Bool, true, false, cond, _&&_, and-false}
+use mathlib.Core.List.{List, [], _++_}
+use native.Mathlib.Omega.{arith}
+use lib.Bits.{xor-zero-r}
+use lib.Dec.{ltb, leb, eqb}
+use lib.ListN.{length, length-append}
+use borrow.Author.Tests.{eq-eqb, ne-eqb, le-leb, lt-leb, lt-ltb, le-ltb, leb-true, ltb-false, eqb-true, eqb-false}
+use Rattle.words.specs.Word.{bigEndianBytes, littleEndianBytes}
+use Rattle.words.proofs.Words.{length-big, length-little}
+use Rattle.crc.specs.Crc.{crcOf}
+use Rattle.log_item.specs.declared.LogItem.{LogItem}
+use Rattle.list_measure.specs.declared.Measured.{Measured}
+use Rattle.list_writer.specs.declared.Encoded.{Encoded}
+use Rattle.list_measure.specs.Bytes.{listBytes}
+use Rattle.list_measure.specs.Refusing.{Verdict, fine, refused, listVerdict}
+use Rattle.list_measure.specs.Answers.{measured, measuredOf, measureOf}
+use Rattle.list_writer.specs.Bytes.{footed}
+use Rattle.list_writer.specs.Answers.{encoded}
+use Rattle.log_batch.specs.Front.{blockBytes, bodyOffset, headerBytes, frontBytes, batchEncoded}
+
+-- ---- lengths
+
+pub empty-block : (content : List ℕ) → length content ≡ 0 → blockBytes content ≡ []
+unfolding blockBytes
+empty-block content h = rw (eq-eqb (length content) 0 h)
+
+pub filled-block : (content : List ℕ) → (length content ≡ 0 → ⊥) → blockBytes content ≡ content ++ littleEndianBytes 4 (crcOf content)
+unfolding blockBytes footed
+filled-block content h = rw (ne-eqb (length content) 0 h, xor-zero-r (crcOf content))
+
+pub block-empty : (content : List ℕ) → length content ≡ 0 → 16 ≡ bodyOffset content
+block-empty content h = omega (arith, ap length (empty-block content h))
+
+pub block-filled : (content : List ℕ) → (length content ≡ 0 → ⊥) → 16 + length content + 4 ≡ bodyOffset content
+block-filled content h =
+    let word : List ℕ = littleEndianBytes 4 (crcOf content) in
+    omega (arith, ap length (filled-block content h), length-append content word, length-little 4 (crcOf content))
+
+pub block-small : (content : List ℕ) → length (blockBytes content) ≤ length content + 4
+block-small content = go (eqb (length content) 0) refl
+  where
+    go : (b : Bool) → eqb (length content) 0 ≡ b → length (blockBytes content) ≤ length content + 4
+    go true e = omega (arith, block-empty content (eqb-true (length content) 0 e))
+    go false e = omega (arith, block-filled content (eqb-false (length content) 0 e))
+
+pub header-length : (len offset : ℕ) → length (headerBytes len offset) ≡ 16
+unfolding headerBytes
+header-length len offset =
+    length-append (bigEndianBytes 8 (len * 256)) (bigEndianBytes 8 offset) ∙ omega (arith, length-big 8 (len * 256), length-big 8 offset)
+
+pub front-length : (len : ℕ) (content : List ℕ) → length (frontBytes len content) ≡ bodyOffset content
+unfolding frontBytes
+front-length len content =
+    length-append (headerBytes len (bodyOffset content)) (blockBytes content) ∙ omega (arith, header-length len (bodyOffset content))
+
+-- A body that is not refused is short enough for the sums behind it.
+pub body-small : (s : List ℕ) (checked : Bool) (xs : List LogItem) (ns : List ℕ) {m : Measured} → m ≡ measureOf s checked xs ns → m .length ≤ 4294967295
+unfolding measureOf measuredOf
+body-small s checked xs ns {m} e = go (listVerdict s checked xs ns) e
+  where
+    n : ℕ
+    n = length (listBytes s xs ns)
+
+    at-fine : (t : ℕ) (b : Bool) → ltb 4294967295 (n + 4) ≡ b → m ≡ cond b (measured 22 0 0 0) (measured 0 0 (n + 4) t) → m .length ≤ 4294967295
+    at-fine t true h q = omega (arith, ap (λ (x : Measured). x .length) q)
+    at-fine t false h q = omega (arith, ap (λ (x : Measured). x .length) q, ltb-false 4294967295 (n + 4) h)
+
+    go : (v : Verdict) → m ≡ measuredOf v n → m .length ≤ 4294967295
+    go (refused a b) q = omega (arith, ap (λ (x : Measured). x .length) q)
+    go (fine t) q = at-fine t (ltb 4294967295 (n + 4)) refl q
+
+-- The verdict on a list whose measure has a length.
+pub verdict-of : (s : List ℕ) (checked : Bool) (xs : List LogItem) (ns : List ℕ) → (measureOf s checked xs ns .length ≡ 0 → ⊥)
+    → listVerdict s checked xs ns ≡ fine (measureOf s checked xs ns .total)
+unfolding measureOf measuredOf
+verdict-of s checked xs ns h = go (listVerdict s checked xs ns) h
+  where
+    n : ℕ
+    n = length (listBytes s xs ns)
+
+    at-fine : (t : ℕ) (b : Bool) → (cond b (measured 22 0 0 0) (measured 0 0 (n + 4) t) .length ≡ 0 → ⊥)
+        → t ≡ cond b (measured 22 0 0 0) (measured 0 0 (n + 4) t) .total
+    at-fine t true k = absurd (k refl)
+    at-fine t false k = refl
+
+    go : (v : Verdict) → (measuredOf v n .length ≡ 0 → ⊥) → v ≡ fine (measuredOf v n .total)
+    go (refused a b) k = absurd (k refl)
+    go (fine t) k = ap fine (at-fine t (ltb 4294967295 (n + 4)) k)
+
+-- ---- the answer
+
+something : (items content : ℕ) → (items ≡ 0 → ⊥) ⊎ (content ≡ 0 → ⊥) → (eqb items 0 && eqb content 0) ≡ false
+something items content (inl h) = rw (ne-eqb items 0 h)
+something items content (inr h) = rw (ne-eqb content 0 h) (and-false (eqb items 0))
+
+module _ (m : Measured) (items : ℕ) (content : List ℕ) (room : ℕ) {r : Encoded} where
+  pub nothing : items ≡ 0 → length content ≡ 0 → r ≡ encoded 0 0 0 → r ≡ batchEncoded m items content room
+  unfolding batchEncoded
+  nothing a b e = rw (eq-eqb _ _ a, eq-eqb _ _ b) e
+
+  module _ (some : (items ≡ 0 → ⊥) ⊎ (length content ≡ 0 → ⊥)) where
+    pub refused-body : m .length ≡ 0 → r ≡ encoded (m .number) (m .item) 0 → r ≡ batchEncoded m items content room
+    unfolding batchEncoded
+    refused-body h e = rw (something items (length content) some, eq-eqb (m .length) 0 h) e
+
+    module _ (long : m .length ≡ 0 → ⊥) where
+      pub refused-22 : 2147483647 < m .total → r ≡ encoded 22 0 0 → r ≡ batchEncoded m items content room
+      unfolding batchEncoded
+      refused-22 h e = rw (something items (length content) some, ne-eqb (m .length) 0 long, lt-ltb 2147483647 (m .total) h) e
+
+      module _ (few : m .total ≤ 2147483647) where
+        pub refused-20 : (m .total ≡ length content → ⊥) → r ≡ encoded 20 0 0 → r ≡ batchEncoded m items content room
+        unfolding batchEncoded
+        refused-20 h e = rw (something items (length content) some, ne-eqb (m .length) 0 long, le-ltb 2147483647 (m .total) few, ne-eqb (m .total) (length content) h) e
+
+        module _ (same : m .total ≡ length content) {offset : ℕ} (there : offset ≡ bodyOffset content) where
+          pub refused-21 : room < offset + m .length → r ≡ encoded 21 0 0 → r ≡ batchEncoded m items content room
+          unfolding batchEncoded
+          refused-21 h e =
+              rw (something items (length content) some, ne-eqb (m .length) 0 long, le-ltb 2147483647 (m .total) few, eq-eqb (m .total) (length content) same, lt-leb _ _ (rw there at h)) e
+
+          pub written-whole : offset + m .length ≤ room → r ≡ encoded 0 0 (offset + m .length) → r ≡ batchEncoded m items content room
+          unfolding batchEncoded
+          written-whole h e =
+              rw (something items (length content) some, ne-eqb (m .length) 0 long, le-ltb 2147483647 (m .total) few, eq-eqb (m .total) (length content) same, le-leb _ _ (rw there at h))
+              (e ∙ ap (λ (n : ℕ). encoded 0 0 (n + m .length)) there)
+
+-- What an answer with a length tells.
+pub record Planned (m : Measured) (content : List ℕ) (room : ℕ) (r : Encoded) : Type 0 where
+  pub some : m .length ≡ 0 → ⊥
+  pub few : length content ≤ 2147483647
+  pub total : m .total ≡ length content
+  pub size : r .length ≡ bodyOffset content + m .length
+  pub fits : r .length ≤ room
+
+pub planned : (m : Measured) (items : ℕ) (content : List ℕ) (room : ℕ) {r : Encoded} → r ≡ batchEncoded m items content room → (r .length ≡ 0 → ⊥)
+    → Planned m content room r
+unfolding batchEncoded
+planned m items content room {r} told h = first (eqb items 0 && eqb (length content) 0) told
+  where
+    size : ℕ
+    size = bodyOffset content + m .length
+
+    none : {n i : ℕ} → r ≡ encoded n i 0 → Planned m content room r
+    none e = absurd (h (ap (λ (x : Encoded). x .length) e))
+
+    fifth : (m .length ≡ 0 → ⊥) → m .total ≤ 2147483647 → m .total ≡ length content → (b : Bool) → leb size room ≡ b
+        → r ≡ cond b (encoded 0 0 size) (encoded 21 0 0) → Planned m content room r
+    fifth some few same true t e =
+        let long : r .length ≡ size = ap (λ (x : Encoded). x .length) e in
+        record { some = some; few = omega arith; total = same; size = long; fits = omega (arith, leb-true size room t) }
+    fifth some few same false t e = none e
+
+    fourth : (m .length ≡ 0 → ⊥) → m .total ≤ 2147483647 → (b : Bool) → eqb (m .total) (length content) ≡ b
+        → r ≡ cond b (cond (leb size room) (encoded 0 0 size) (encoded 21 0 0)) (encoded 20 0 0) → Planned m content room r
+    fourth some few true t e = fifth some few (eqb-true _ _ t) (leb size room) refl e
+    fourth some few false t e = none e
+
+    third : (m .length ≡ 0 → ⊥) → (b : Bool) → ltb 2147483647 (m .total) ≡ b
+        → r ≡ cond b (encoded 22 0 0) (cond (eqb (m .total) (length content)) (cond (leb size room) (encoded 0 0 size) (encoded 21 0 0)) (encoded 20 0 0))
+        → Planned m content room r
+    third some true t e = none e
+    third some false t e = fourth some (ltb-false _ _ t) (eqb (m .total) (length content)) refl e
+
+    second : (b : Bool) → eqb (m .length) 0 ≡ b
+        → r ≡ cond b (encoded (m .number) (m .item) 0)
+        (cond (ltb 2147483647 (m .total)) (encoded 22 0 0)
+        (cond (eqb (m .total) (length content)) (cond (leb size room) (encoded 0 0 size) (encoded 21 0 0)) (encoded 20 0 0)))
+        → Planned m content room r
+    second true t e = none e
+    second false t e = third (eqb-false (m .length) 0 t) (ltb 2147483647 (m .total)) refl e
+
+    first : (b : Bool)
+        → r ≡ cond b (encoded 0 0 0)
+        (cond (eqb (m .length) 0) (encoded (m .number) (m .item) 0)
+        (cond (ltb 2147483647 (m .total)) (encoded 22 0 0)
+        (cond (eqb (m .total) (length content)) (cond (leb size room) (encoded 0 0 size) (encoded 21 0 0)) (encoded 20 0 0))))
+        → Planned m content room r
+    first true e = none e
+    first false e = second (eqb (m .length) 0) refl e
+
+-- An answer that refuses has no length.
+record Silent (r : Encoded) : Type 0 where
+  none : (r .number ≡ 0 → ⊥) → r .length ≡ 0
+
+either : (b : Bool) {x y : Encoded} → Silent x → Silent y → Silent (cond b x y)
+either true h k = h
+either false h k = k
+
+silent : (m : Measured) (items : ℕ) (content : List ℕ) (room : ℕ) → Silent (batchEncoded m items content room)
+unfolding batchEncoded
+silent m items content room =
+    either (eqb items 0 && eqb (length content) 0) (no 0 0)
+    (either (eqb (m .length) 0) (no (m .number) (m .item))
+    (either (ltb 2147483647 (m .total)) (no 22 0)
+    (either (eqb (m .total) (length content)) (either (leb size room) (record { none = λ h. absurd (h refl) }) (no 21 0)) (no 20 0))))
+  where
+    size : ℕ
+    size = bodyOffset content + m .length
+
+    no : (n i : ℕ) → Silent (encoded n i 0)
+    no n i = record { none = λ h. refl }
+
+pub refused-length : (m : Measured) (items : ℕ) (content : List ℕ) (room : ℕ) {r : Encoded} → r ≡ batchEncoded m items content room → (r .number ≡ 0 → ⊥)
+    → r .length ≡ 0
+refused-length m items content room e h = (rw (← e) at (silent m items content room)) .none h

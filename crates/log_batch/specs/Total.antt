@@ -1,0 +1,13 @@
+-- The entry total that a reading must come to.
+-- Assumes nothing.
+use mathlib.Core.Bool.{cond}
+use lib.Dec.{eqb}
+use Rattle.log_batch.specs.declared.Wanted.{Wanted}
+use Rattle.log_batch.specs.declared.Wanted.the-variants.{Free, Exactly}
+use Rattle.log_batch.specs.Reading.{Answer, accepted, rejected}
+
+-- an answer whose entry total is not the one wanted is a 20
+abbrev pub agreeing : Wanted → Answer → Answer
+agreeing Free a = a
+agreeing (Exactly n) (accepted xs rows u q) = cond (eqb u n) (accepted xs rows u q) (rejected 20 0)
+agreeing (Exactly n) (rejected r i) = rejected r i

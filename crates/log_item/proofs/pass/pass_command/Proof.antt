@@ -1,0 +1,67 @@
+-- `log_item::pass::pass_command` meets its contract.
+-- Assumes nothing.
+use mathlib.Core.Path.{ap}
+use Rattle.log_item.specs.Answers.{fieldGot}
+use Rattle.log_item.proofs.Smallest.{learnt}
+use Rattle.log_item.proofs.Fields.{command-clean, command-compact, command-short, command-unknown, command-refused}
+use Rattle.log_item.specs.PassingPrivate.{placeAfter}
+use borrow.Author.Needs.{needs}
+use Rattle.log_item.proofs.pass.pass_command.Statement.{statement}
+use Rattle.log_item.proofs.pass.pass_command.Tie as tie
+
+read-byte-requires : tie.Need-read-byte-requires
+read-byte-requires c κs = search needs
+
+enum-known-kind : tie.Need-enum-known-kind
+enum-known-kind c = search needs
+
+returns : tie.Need-returns
+returns c = ap placeAfter (command-clean _ _ _ (learnt fieldGot (c .before .before .before .before .read-byte .ensures) (c .before .before .kind .given .1)) (c .if1 .taken))
+
+read-number-requires : tie.Need-read-number-requires
+read-number-requires c κs = search needs
+
+enum-known-end : tie.Need-enum-known-end
+enum-known-end c = search needs
+
+enum-known-number : tie.Need-enum-known-number
+enum-known-number c = search needs
+
+returns-2 : tie.Need-returns-2
+returns-2 c =
+    let kind = c .before .before .before .before .before .before .before in
+    ap placeAfter (command-compact _ _ _ (learnt fieldGot (kind .before .before .read-byte .ensures) (kind .kind .given .1))
+    (c .before .before .before .before .if2 .taken) (learnt fieldGot (c .before .before .before .read-number .ensures) (c .before .end .given .1)))
+
+returns-3 : tie.Need-returns-3
+returns-3 c =
+    let kind = c .before .before .before .before .before .before .before in
+    ap placeAfter (command-short _ _ _ (learnt fieldGot (kind .before .before .read-byte .ensures) (kind .kind .given .1))
+    (c .before .before .before .before .if2 .taken) (learnt fieldGot (c .before .before .before .read-number .ensures) (c .before .number .given .1)))
+
+enum-known-number-2 : tie.Need-enum-known-number-2
+enum-known-number-2 c = search needs
+
+returns-4 : tie.Need-returns-4
+returns-4 c =
+    let kind = c .before .before .before in
+    ap placeAfter (command-unknown _ _ _ (learnt fieldGot (kind .before .before .read-byte .ensures) (kind .kind .given .1)) (c .before .if1 .left) (c .if2 .left))
+
+returns-5 : tie.Need-returns-5
+returns-5 c = ap placeAfter (command-refused _ _ _ (learnt fieldGot (c .before .before .before .read-byte .ensures) (c .before .number2 .given .1)))
+
+pub pass-command-spec : {M : Type 1} → statement M
+pass-command-spec =
+    tie.close
+    (tie.spec
+    read-byte-requires
+    enum-known-kind
+    returns
+    read-number-requires
+    enum-known-end
+    enum-known-number
+    returns-2
+    returns-3
+    enum-known-number-2
+    returns-4
+    returns-5)

@@ -1,0 +1,54 @@
+-- `log_item::pass::pass_span` meets its contract.
+-- Assumes nothing.
+use mathlib.Core.Path.{ap}
+use Rattle.log_item.specs.Answers.{fieldGot}
+use Rattle.log_item.proofs.Smallest.{learnt, span-in, span-outside, span-refused}
+use Rattle.log_item.proofs.NumberGot.{number-inside}
+use Rattle.log_item.specs.PassingPrivate.{placeAfter}
+use native.Mathlib.Omega.{arith}
+use borrow.Author.Needs.{needs}
+use Rattle.log_item.proofs.pass.pass_span.Statement.{statement}
+use Rattle.log_item.proofs.pass.pass_span.Tie as tie
+
+read-number-requires : tie.Need-read-number-requires
+read-number-requires c κs = search needs
+
+enum-known-value : tie.Need-enum-known-value
+enum-known-value c = search needs
+
+sub-if1 : tie.Need-sub-if1
+sub-if1 c = omega (arith, number-inside _ _ _ (learnt fieldGot (c .before .before .before .read-number .ensures) (c .before .value .given .1)))
+
+returns : tie.Need-returns
+returns c =
+    let e = learnt fieldGot (c .before .before .before .before .read-number .ensures) (c .before .before .value .given .1) in
+    let h = number-inside _ _ _ e in
+    ap placeAfter (span-outside _ _ _ e (omega arith))
+
+add-t10 : tie.Need-add-t10
+add-t10 c = omega (arith, number-inside _ _ _ (learnt fieldGot (c .before .before .before .before .read-number .ensures) (c .before .before .value .given .1)))
+
+enum-known-number : tie.Need-enum-known-number
+enum-known-number c = search needs
+
+returns-2 : tie.Need-returns-2
+returns-2 c =
+    let e = learnt fieldGot (c .before .before .before .before .read-number .ensures) (c .before .before .value .given .1) in
+    let h = number-inside _ _ _ e in
+    ap placeAfter (span-in _ _ _ e (omega arith))
+
+returns-3 : tie.Need-returns-3
+returns-3 c = ap placeAfter (span-refused _ _ _ (learnt fieldGot (c .before .before .before .read-number .ensures) (c .before .number .given .1)))
+
+pub pass-span-spec : {M : Type 1} → statement M
+pass-span-spec =
+    tie.close
+    (tie.spec
+    read-number-requires
+    enum-known-value
+    sub-if1
+    returns
+    add-t10
+    enum-known-number
+    returns-2
+    returns-3)

@@ -1,0 +1,64 @@
+// The smallest pieces of an item, each read at a place: a number, a byte, a span.
+ghost use mathlib.Core.Path.{_≡_};
+ghost use Rattle.log_item.specs.Pieces.{number, byte, span};
+ghost use Rattle.log_item.specs.Answers.{fieldGot, spanGot};
+use crate::Field;
+use crate::Form;
+use crate::Span;
+use crate::SpanRead;
+use numbers::NumberRead;
+use words::wide;
+
+// What Form::Plain alone refuses; who asks for Plain sees it. Document 01 has no such number, and the plain-form test answers no in its place.
+const NOT_SHORTEST: u32 = 8;
+
+// A length and as many bytes: where these stand.
+pub fn read_span(buf: &[u8], at: usize, form: Form) -> SpanRead
+    ensures { λ r. ⌜ spanGot r ≡ span form (now (buf .entry)) at ⌝ }
+{
+    match read_number(buf, at, form) {
+        Field::Done { value, next } => {
+            if ((buf.len() - next) as u64) < value {
+                return SpanRead::Refused(refusal::SPAN_OUTSIDE);
+            }
+            let len = value as usize;
+            SpanRead::Done {
+                span: Span { at: next, len },
+                next: next + len,
+            }
+        }
+        Field::Refused(number) => SpanRead::Refused(number),
+    }
+}
+
+// The number at a place, in the form asked for; what Form::Plain alone refuses, it refuses with 8.
+pub fn read_number(buf: &[u8], at: usize, form: Form) -> Field
+    ensures { λ r. ⌜ fieldGot r ≡ number form (now (buf .entry)) at ⌝ }
+{
+    match numbers::decode_var_u64(buf, at) {
+        NumberRead::Done { value, next } => {
+            if let Form::Plain = form {
+                if next - at != numbers::var_u64_len(value) {
+                    return Field::Refused(NOT_SHORTEST);
+                }
+            }
+            Field::Done { value, next }
+        }
+        NumberRead::Eof => Field::Refused(refusal::NUMBER_BROKEN),
+        NumberRead::Overflow => Field::Refused(refusal::NUMBER_BROKEN),
+    }
+}
+
+// The byte at a place.
+pub fn read_byte(buf: &[u8], at: usize) -> Field
+    ensures { λ r. ⌜ fieldGot r ≡ byte (now (buf .entry)) at ⌝ }
+{
+    if at < buf.len() {
+        Field::Done {
+            value: wide(buf[at]),
+            next: at + 1,
+        }
+    } else {
+        Field::Refused(refusal::NUMBER_BROKEN)
+    }
+}

@@ -1,5 +1,0 @@
-pub mod Limits
-pub mod Spelling
-pub mod Acceptable
-pub mod Plain
-pub mod Rows
