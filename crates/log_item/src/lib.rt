@@ -4,6 +4,7 @@
 // Every public function takes any arguments: a place may lie anywhere, past the end too. A refusal is a number of document 01, or 8
 // where Form::Plain alone refuses.
 mod entries;
+mod keys;
 mod measuring;
 mod pass;
 mod piece;
@@ -19,8 +20,8 @@ pub use prefix::is_internal_key;
 pub use prefix::lies_in;
 ghost use mathlib.Core.Path.{_≡_};
 ghost use Rattle.log_item.specs.Entries.{entriesOf};
-ghost use Rattle.log_item.specs.Reading.{command, putAt, keyValue, entryIndexes, content, head, tail};
-ghost use Rattle.log_item.specs.Private.{commandGot, keyValueGot, entriesGot, contentGot};
+ghost use Rattle.log_item.specs.Reading.{command, entryIndexes, content, head, tail};
+ghost use Rattle.log_item.specs.Private.{commandGot, entriesGot, contentGot};
 ghost use Rattle.log_item.specs.Answers.{headGot, tailGot, itemGot, passItem};
 use entries::read_first_index;
 
@@ -314,56 +315,6 @@ impl Command {
             }
             Field::Refused(number) => CommandRead::Refused(number),
         }
-    }
-}
-
-impl KeyValue {
-    fn decode(buf: &[u8], at: usize, form: Form) -> KeyValueRead
-        ensures { λ r. ⌜ keyValueGot r ≡ keyValue form (now (buf .entry)) at ⌝ }
-    {
-        match read_byte(buf, at) {
-            Field::Done { value: op, next } => {
-                if op == 1 {
-                    return read_put(buf, next, form);
-                }
-                if op == 2 {
-                    return match read_span(buf, next, form) {
-                        SpanRead::Done {
-                            span: key,
-                            next: end,
-                        } => KeyValueRead::Done {
-                            key_value: KeyValue { key, op: Op::Del },
-                            next: end,
-                        },
-                        SpanRead::Refused(number) => KeyValueRead::Refused(number),
-                    };
-                }
-                KeyValueRead::Refused(refusal::OP_UNKNOWN)
-            }
-            Field::Refused(number) => KeyValueRead::Refused(number),
-        }
-    }
-}
-
-// A key and its content.
-fn read_put(buf: &[u8], at: usize, form: Form) -> KeyValueRead
-    ensures { λ r. ⌜ keyValueGot r ≡ putAt form (now (buf .entry)) at ⌝ }
-{
-    match read_span(buf, at, form) {
-        SpanRead::Done { span: key, next } => match read_span(buf, next, form) {
-            SpanRead::Done {
-                span: value,
-                next: end,
-            } => KeyValueRead::Done {
-                key_value: KeyValue {
-                    key,
-                    op: Op::Put { value },
-                },
-                next: end,
-            },
-            SpanRead::Refused(number) => KeyValueRead::Refused(number),
-        },
-        SpanRead::Refused(number) => KeyValueRead::Refused(number),
     }
 }
 

@@ -1,11 +1,11 @@
--- `log_item::read_put` meets its contract.
+-- `log_item::keys::read_put` meets its contract.
 -- Assumes nothing.
 use Rattle.log_item.specs.Answers.{spanGot}
 use Rattle.log_item.proofs.Smallest.{learnt}
 use Rattle.log_item.proofs.Fields.{put-done, put-short, put-refused}
 use borrow.Author.Needs.{needs}
-use Rattle.log_item.proofs.read_put.Statement.{statement}
-use Rattle.log_item.proofs.read_put.Tie as tie
+use Rattle.log_item.proofs.keys.read_put.Statement.{statement}
+use Rattle.log_item.proofs.keys.read_put.Tie as tie
 
 read-span-requires : tie.Need-read-span-requires
 read-span-requires c κs = search needs
