@@ -5,6 +5,7 @@ use denote.Ref.{now}
 use Rattle.one_answer.specs.OneAnswer.{OneAnswer}
 use Rattle.log_item.specs.declared.Span.{Span}
 use Rattle.log_batch.specs.declared.BodyCheck.{BodyCheck}
+use Rattle.log_batch.proofs.Determined.{batch-once}
 use Rattle.batch_rows.specs.declared.BatchCheck.{BatchCheck}
 use Rattle.batch_rows.proofs.read_rows.Kinds as read-rows-kinds
 use Rattle.batch_rows.proofs.read_rows.Reads as read-rows-reads
@@ -32,4 +33,4 @@ read-rows κs a x y s t p q =
 
 pub write-rows : OneAnswer 5 write-rows-kinds.ps write-rows-kinds.r write-rows-reads.Post
     (λ κs x y s t. (x ≡ y) × (now (s .1 .1 .1 .1 .1 .1 .0) ≡ now (t .1 .1 .1 .1 .1 .1 .0)))
-write-rows κs a x y s t p q = let e : x ≡ y = p .answer ∙ sym (q .answer) in (e, p .written ∙ (rw e (sym (q .written))))
+write-rows κs a x y s t p q = batch-once p q

@@ -1,6 +1,9 @@
 // Whole batches, read into rows of words that the caller lends, and written from them.
 ghost use mathlib.Core.Path.{_≡_};
-ghost use Rattle.batch_rows.specs.Rows.{placeIf, BatchReadInto, BatchWrittenFrom};
+ghost use Rattle.item_row.specs.Row.{itemRowCount};
+ghost use Rattle.rows_writer.specs.Rows.{measureRows, rowsBytes};
+ghost use Rattle.log_batch.specs.Written.{BatchWritten};
+ghost use Rattle.batch_rows.specs.Rows.{placeIf, BatchReadInto};
 use list_writer::Encoded;
 use log_batch::BodyCheck;
 use log_batch::HeaderRead;
@@ -75,7 +78,7 @@ pub fn write_rows(
     checked: bool,
     out: &mut [u8],
 ) -> Encoded
-    ensures { λ r. ⌜ BatchWrittenFrom checked (now (items .entry)) (now (entries .entry)) (now (store .entry)) (now (content .entry)) signature (now (out .entry)) r (now (out .exit)) ⌝ }
+    ensures { λ r. ⌜ BatchWritten (measureRows (now (store .entry)) checked (now (items .entry)) (now (entries .entry))) (itemRowCount (now (items .entry))) (now (content .entry)) (rowsBytes (now (store .entry)) (now (items .entry)) (now (entries .entry)) signature) (now (out .entry)) r (now (out .exit)) ⌝ }
 {
     let m = rows_writer::measure_rows(items, entries, store, checked);
     let r = log_batch::begin(m, items.len() / 7, content, out);

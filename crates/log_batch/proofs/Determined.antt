@@ -1,6 +1,8 @@
 -- No second answer: two results, and two later contents of what is lent, that meet one contract are equal.
 -- Assumes nothing.
+use Prim.Native.Nat.{ℕ}
 use mathlib.Core.Path.{_≡_, sym, _∙_}
+use mathlib.Core.List.{List}
 use Rattle.one_answer.specs.OneAnswer.{OneAnswer}
 use Rattle.log_batch.proofs.seal.check_seal.Kinds as check-seal-kinds
 use Rattle.log_batch.proofs.seal.check_seal.Reads as check-seal-reads
@@ -21,6 +23,8 @@ use Rattle.log_batch.proofs.table.read_items.Kinds as read-items-kinds
 use Rattle.log_batch.proofs.table.read_items.Reads as read-items-reads
 use Rattle.log_batch.proofs.LogItemBatch.decode.Kinds as decode-log-item-batch-kinds
 use Rattle.log_batch.proofs.LogItemBatch.decode.Reads as decode-log-item-batch-reads
+use Rattle.list_measure.specs.declared.Measured.{Measured}
+use Rattle.list_writer.specs.declared.Encoded.{Encoded}
 use Rattle.list_writer.proofs.Determined.{written-once}
 use Rattle.log_batch.proofs.LogItemBatch.encode.Kinds as encode-log-item-batch-kinds
 use Rattle.log_batch.proofs.LogItemBatch.encode.Reads as encode-log-item-batch-reads
@@ -35,6 +39,7 @@ use Rattle.log_batch.proofs.view.entry_view.Reads as entry-view-reads
 use Rattle.log_batch.proofs.front.begin.Kinds as begin-kinds
 use Rattle.log_batch.proofs.front.begin.Reads as begin-reads
 use Rattle.log_batch.specs.Header.{headerGot}
+use Rattle.log_batch.specs.Written.{BatchWritten}
 use Rattle.log_batch.specs.declared.HeaderRead.{HeaderRead}
 use Rattle.log_batch.specs.declared.HeaderRead.the-variants as read
 use Rattle.log_batch.proofs.LogBatch.new.Kinds as new-kinds
@@ -114,8 +119,13 @@ decode-log-batch κs a x y s t p q = p ∙ sym q
 pub check-frame : OneAnswer 1 check-frame-kinds.ps check-frame-kinds.r check-frame-reads.Post (λ κs x y s t. x ≡ y)
 check-frame κs a x y s t p q = header-same x y (p ∙ sym q)
 
+-- A measured batch has one answer, and leaves one buffer.
+pub batch-once : {m : Measured} {items : ℕ} {content body out : List ℕ} {x y : Encoded} {later other : List ℕ} → BatchWritten m items content body out x later
+    → BatchWritten m items content body out y other → (x ≡ y) × (later ≡ other)
+batch-once {x = x} {y = y} p q = let e : x ≡ y = p .answer ∙ sym (q .answer) in (e, p .written ∙ (rw e (sym (q .written))))
+
 pub encode-log-batch : OneAnswer 3 encode-log-batch-kinds.ps encode-log-batch-kinds.r encode-log-batch-reads.Post (λ κs x y s t. (x ≡ y) × (now (s .1 .1 .1 .1 .0) ≡ now (t .1 .1 .1 .1 .0)))
-encode-log-batch κs a x y s t p q = let e : x ≡ y = p .answer ∙ sym (q .answer) in (e, p .written ∙ (rw e (sym (q .written))))
+encode-log-batch κs a x y s t p q = batch-once p q
 
 pub encode-unchecked-log-batch : OneAnswer 3 encode-unchecked-log-batch-kinds.ps encode-unchecked-log-batch-kinds.r encode-unchecked-log-batch-reads.Post (λ κs x y s t. (x ≡ y) × (now (s .1 .1 .1 .1 .0) ≡ now (t .1 .1 .1 .1 .0)))
-encode-unchecked-log-batch κs a x y s t p q = let e : x ≡ y = p .answer ∙ sym (q .answer) in (e, p .written ∙ (rw e (sym (q .written))))
+encode-unchecked-log-batch κs a x y s t p q = batch-once p q

@@ -1,7 +1,7 @@
 -- Writing a whole batch: the body behind header and block, and what the contract then tells.
 -- Assumes nothing.
 use Prim.Native.Nat.{ℕ, _+_, _-_, _^_, _≤_, _<_}
-use mathlib.Core.Path.{_≡_, refl, sym, ap, ap₂, _∙_}
+use mathlib.Core.Path.{_≡_, refl, sym, ap, _∙_}
 use mathlib.Core.Bool.{Bool}
 use mathlib.Core.List.{List, _++_}
 use native.Mathlib.Omega.{arith}
@@ -19,51 +19,57 @@ use Rattle.list_writer.specs.Answers.{encoded, encodedOf, laid, MeasuredWritten
 use Rattle.list_writer.proofs.Bodies.{accepted, body-length}
 use Rattle.log_batch.specs.Front.{bodyOffset, frontBytes, batchEncoded, FrontWritten}
 use Rattle.log_batch.proofs.Planning.{block-small, front-length, body-small, planned}
-use Rattle.log_batch.proofs.Fronts.{begun-told, begun-left, body-behind, front-stored}
+use Rattle.log_batch.proofs.Fronts.{begun-told, begun-left, front-stored}
 use Rattle.log_batch.specs.Written.{framed, BatchWritten}
 
-module _ (s : List ℕ) (checked : Bool) (xs : List LogItem) (ns content out : List ℕ) {m : Measured} (same : m ≡ measureOf s checked xs ns)
-    {items : ℕ} (count : length xs ≡ items) {r : Encoded} {mid : List ℕ} (begun : FrontWritten m items content out r mid) where
+-- A body's bytes are as long as its measure says, unless it is refused, and short enough for the sums behind them.
+pub record Sized (m : Measured) (body : List ℕ) : Type 0 where
+  pub small : m .length ≤ 4294967295
+  pub long : (m .length ≡ 0 → ⊥) → length body ≡ m .length
+
+pub list-sized : (s : List ℕ) (checked : Bool) (xs : List LogItem) (ns : List ℕ) (signature : ℕ) → Sized (measureOf s checked xs ns) (bodyBytes s xs ns signature)
+list-sized s checked xs ns signature =
+    record { small = body-small s checked xs ns refl; long = λ h. body-length signature (accepted s checked xs ns _ refl h) }
+
+module _ {m k : Measured} (same : m ≡ k) {body : List ℕ} (sized : Sized k body) {items : ℕ} {content out : List ℕ} {r : Encoded} {mid : List ℕ}
+    (begun : FrontWritten m items content out r mid) where
+  small : m .length ≤ 4294967295
+  small = rw same (sized .small)
+
   told : r ≡ batchEncoded m items content (length out)
-  told = begun-told begun (body-small s checked xs ns same)
+  told = begun-told begun small
 
-  answers : r ≡ batchEncoded (measureOf s checked xs ns) (length xs) content (length out)
-  answers = told ∙ ap₂ (λ (x : Measured) (n : ℕ). batchEncoded x n content (length out)) same (sym count)
+  answers : r ≡ batchEncoded k items content (length out)
+  answers = rw (← same) told
 
-  pub batch-left : (signature : ℕ) → r .length ≡ 0 → BatchWritten checked xs ns s content signature out r mid
-  batch-left signature h = record { answer = answers; written = begun-left begun (framed content (bodyBytes s xs ns signature)) h }
+  pub batch-left : r .length ≡ 0 → BatchWritten k items content body out r mid
+  batch-left h = record { answer = answers; written = begun-left begun (framed content body) h }
 
-  module _ (h : r .length ≡ 0 → ⊥) where
-    pub batch-behind : m .length ≤ r .length
-    batch-behind = body-behind begun (body-small s checked xs ns same) h
-
-    pub batch-stored : (signature : ℕ) {later : List ℕ} {x : Encoded}
-        → MeasuredWritten (measureOf s checked xs ns) (bodyBytes s xs ns signature) mid (r .length - m .length) x later
-        → BatchWritten checked xs ns s content signature out r later
-    unfolding encodedOf laid framed
-    batch-stored signature {later} {x} p =
-        let offset : ℕ = r .length - m .length in
-        let front : Stored out 0 (frontBytes (r .length) content) offset mid = front-stored begun (body-small s checked xs ns same) h in
-        let k = planned m items content (length out) told h in
-        let body : List ℕ = bodyBytes s xs ns signature in
-        let l : length body ≡ m .length = body-length signature (accepted s checked xs ns m same (k .some)) in
-        let place : offset ≡ bodyOffset content = omega (arith, front .after, front-length (r .length) content) in
-        let room : offset + m .length ≤ length mid = omega (arith, stored-length front, k .size, k .fits) in
-        let fit : offset + length body ≤ length mid = omega arith in
-        let e : x ≡ encoded 0 0 (m .length) = p .answer ∙ (rw (← same, ne-eqb (m .length) 0 (k .some), le-leb (offset + m .length) (length mid) room)) in
-        let put : later ≡ take offset mid ++ body ++ drop (offset + length body) mid =
-        p .written ∙ (rw (e, ne-eqb (m .length) 0 (k .some), le-leb (offset + length body) (length mid) fit)) in
-        let behind : Stored mid offset body (offset + length body) later = record { after = refl; stored = put ∙ sym (sets-eq body mid offset fit) } in
-        let long : bodyOffset content + length body ≡ r .length = omega (arith, k .size) in
-        let whole : framed content body ≡ frontBytes (r .length) content ++ body = ap (λ (n : ℕ). frontBytes n content ++ body) long in
-        let w : Stored out 0 (framed content body) (offset + length body) later = stored-same whole (stored-then front behind) in
-        let all : 0 + length (framed content body) ≤ length out = omega (arith, w .after, place, long, k .fits) in
-        record {
-          answer = answers;
-          written =
-              w .stored ∙ sets-eq (framed content body) out 0 all
-              ∙ (rw (ne-eqb (r .length) 0 h, le-leb (0 + length (framed content body)) (length out) all));
-        }
+  pub batch-stored : (r .length ≡ 0 → ⊥) → {later : List ℕ} {x : Encoded} → MeasuredWritten k body mid (r .length - m .length) x later
+      → BatchWritten k items content body out r later
+  unfolding encodedOf laid framed
+  batch-stored h {later} {x} p =
+      let offset : ℕ = r .length - m .length in
+      let front : Stored out 0 (frontBytes (r .length) content) offset mid = front-stored begun small h in
+      let plan = planned m items content (length out) told h in
+      let l : length body ≡ m .length = sized .long (rw same at (plan .some)) ∙ ap (λ (n : Measured). n .length) (sym same) in
+      let place : offset ≡ bodyOffset content = omega (arith, front .after, front-length (r .length) content) in
+      let room : offset + m .length ≤ length mid = omega (arith, stored-length front, plan .size, plan .fits) in
+      let fit : offset + length body ≤ length mid = omega arith in
+      let e : x ≡ encoded 0 0 (m .length) = p .answer ∙ (rw (← same, ne-eqb (m .length) 0 (plan .some), le-leb (offset + m .length) (length mid) room)) in
+      let put : later ≡ take offset mid ++ body ++ drop (offset + length body) mid =
+      p .written ∙ (rw (e, ne-eqb (m .length) 0 (plan .some), le-leb (offset + length body) (length mid) fit)) in
+      let behind : Stored mid offset body (offset + length body) later = record { after = refl; stored = put ∙ sym (sets-eq body mid offset fit) } in
+      let long : bodyOffset content + length body ≡ r .length = omega (arith, plan .size) in
+      let whole : framed content body ≡ frontBytes (r .length) content ++ body = ap (λ (n : ℕ). frontBytes n content ++ body) long in
+      let w : Stored out 0 (framed content body) (offset + length body) later = stored-same whole (stored-then front behind) in
+      let all : 0 + length (framed content body) ≤ length out = omega (arith, w .after, place, long, plan .fits) in
+      record {
+        answer = answers;
+        written =
+            w .stored ∙ sets-eq (framed content body) out 0 all
+            ∙ (rw (ne-eqb (r .length) 0 h, le-leb (0 + length (framed content body)) (length out) all));
+      }
 
 -- What a contract that is met tells, where the answer has a length: the batch stands at the start, and behind it what stood there.
 pub record Whole (content body out : List ℕ) (r : Encoded) (later : List ℕ) : Type 0 where
@@ -71,21 +77,19 @@ pub record Whole (content body out : List ℕ) (r : Encoded) (later : List ℕ) 
   pub few : r .length < 2 ^ 56
   pub bytes : later ≡ framed content body ++ drop (r .length) out
 
-pub whole : {checked : Bool} {xs : List LogItem} {ns s content : List ℕ} {signature : ℕ} {out : List ℕ} {r : Encoded} {later : List ℕ}
-    → BatchWritten checked xs ns s content signature out r later → (r .length ≡ 0 → ⊥) → Whole content (bodyBytes s xs ns signature) out r later
+pub whole : {m : Measured} {items : ℕ} {content body out : List ℕ} {r : Encoded} {later : List ℕ} → Sized m body
+    → BatchWritten m items content body out r later → (r .length ≡ 0 → ⊥) → Whole content body out r later
 unfolding laid framed
-whole {checked} {xs} {ns} {s} {content} {signature} {out} {r} {later} w h =
-    let m : Measured = measureOf s checked xs ns in
-    let k = planned m (length xs) content (length out) (w .answer) h in
-    let body : List ℕ = bodyBytes s xs ns signature in
+whole {m} {items} {content} {body} {out} {r} {later} sized w h =
+    let k = planned m items content (length out) (w .answer) h in
     let batch : List ℕ = framed content body in
-    let l : length body ≡ m .length = body-length signature (accepted s checked xs ns m refl (k .some)) in
+    let l : length body ≡ m .length = sized .long (k .some) in
     let len : ℕ = bodyOffset content + length body in
     let long : length batch ≡ len = length-append (frontBytes len content) body ∙ omega (arith, front-length len content) in
     let same : 0 + length batch ≡ r .length = omega (arith, k .size) in
     let fit : 0 + length batch ≤ length out = omega (arith, k .fits) in
     record {
       size = omega (arith, k .size);
-      few = omega (arith, k .size, body-small s checked xs ns {m = m} refl, block-small content, k .few);
+      few = omega (arith, k .size, sized .small, block-small content, k .few);
       bytes = w .written ∙ (rw (ne-eqb (r .length) 0 h, le-leb (0 + length batch) (length out) fit)) ∙ ap (λ (n : ℕ). batch ++ drop n out) same;
     }

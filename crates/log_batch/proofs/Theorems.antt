@@ -61,7 +61,8 @@ use Rattle.log_batch.proofs.Planning.{planned, verdict-of, refused-leng
 use Rattle.log_batch.specs.Batch.{blockOf, bodyOf, readBatch}
 use Rattle.log_batch.specs.Examples.{AllRight, table}
 use Rattle.log_batch.specs.Written.{framed, frameOf, BatchWritten}
-use Rattle.log_batch.proofs.Framing.{whole}
+use Rattle.list_measure.specs.declared.Measured.{Measured}
+use Rattle.log_batch.proofs.Framing.{list-sized, whole}
 use Rattle.log_batch.proofs.Again.{content-size, block-again, body-again, content-again, front-again}
 use Rattle.log_batch.proofs.Whole.{body-read}
 
@@ -255,13 +256,13 @@ module _ (checked : Bool) (t : LogItemBatch) (s : List ℕ) (signature : ℕ) (o
 -- Where the whole-batch writer answers a length, the batch stands at the start of the buffer, and behind it what stood there before. Its content
 -- stands after the header. Where the content is bytes, all below 256, the batch reads as its body does by itself, with the entry total
 -- held to the content.
-module _ {checked : Bool} {xs : List LogItem} {ns s content : List ℕ} {signature : ℕ} {out : List ℕ} {r : Encoded} {later : List ℕ}
-    (w : BatchWritten checked xs ns s content signature out r later) (h : r .length ≡ 0 → ⊥) where
+module _ (checked : Bool) (xs : List LogItem) (ns s : List ℕ) (signature : ℕ) {items : ℕ} {content out : List ℕ} {r : Encoded} {later : List ℕ}
+    (w : BatchWritten (measureOf s checked xs ns) items content (bodyBytes s xs ns signature) out r later) (h : r .length ≡ 0 → ⊥) where
   abbrev body : List ℕ
   body = bodyBytes s xs ns signature
 
   pub batch-stands : later ≡ framed content (bodyBytes s xs ns signature) ++ drop (r .length) out
-  batch-stands = whole w h .bytes
+  batch-stands = whole (list-sized s checked xs ns signature) w h .bytes
 
   pub content-stands : take (length content) (drop 16 later) ≡ content
   content-stands = rw batch-stands (content-again content body (drop (r .length) out))
@@ -273,7 +274,7 @@ module _ {checked : Bool} {xs : List LogItem} {ns s content : List ℕ} {signatu
       (agreeing (Exactly (length content)) (readBody (bodyBytes s xs ns signature) signature))
   written-read bytes =
       let t : List ℕ = drop (r .length) out in
-      let k = whole w h in
+      let k = whole (list-sized s checked xs ns signature) w h in
       let long : bodyOffset content + length body - bodyOffset content ≡ length body = omega arith in
       let block : bodyOffset content - 16 ≡ length (blockBytes content) = omega arith in
       let size : contentLength (blockOf (frameOf content body) (framed content body ++ t)) ≡ length content =
@@ -287,7 +288,7 @@ module _ {checked : Bool} {xs : List LogItem} {ns s content : List ℕ} {signatu
   module _ (small : AllSmall xs) where
     fine-total : listVerdict s checked xs ns ≡ fine (length content)
     fine-total =
-        let k = planned (measureOf s checked xs ns) (length xs) content (length out) (w .answer) h in
+        let k = planned (measureOf s checked xs ns) items content (length out) (w .answer) h in
         verdict-of s checked xs ns (k .some) ∙ ap fine (k .total)
 
     pub batch-read-back : Bytes s → Bytes content → signature < 2 ^ 32
@@ -320,16 +321,15 @@ refused-body-kept checked t s signature {out} {r} {later} w h =
     go (leaves some z same) = same
 
 -- Where the answer has no length, the buffer is as it was.
-pub batch-absent : {checked : Bool} {xs : List LogItem} {ns s content : List ℕ} {signature : ℕ} {out : List ℕ} {r : Encoded} {later : List ℕ}
-    → BatchWritten checked xs ns s content signature out r later → r .length ≡ 0 → later ≡ out
+pub batch-absent : {m : Measured} {items : ℕ} {content body out : List ℕ} {r : Encoded} {later : List ℕ} → BatchWritten m items content body out r later
+    → r .length ≡ 0 → later ≡ out
 unfolding laid
 batch-absent {r = r} w h = w .written ∙ (rw (eq-eqb (r .length) 0 h))
 
 -- So a refused write of a whole batch changes no lent byte either.
-pub refused-batch-kept : {checked : Bool} {xs : List LogItem} {ns s content : List ℕ} {signature : ℕ} {out : List ℕ} {r : Encoded} {later : List ℕ}
-    → BatchWritten checked xs ns s content signature out r later → (r .number ≡ 0 → ⊥) → later ≡ out
-refused-batch-kept {checked} {xs} {ns} {s} {content} {out = out} w h =
-    batch-absent w (refused-length (measureOf s checked xs ns) (length xs) content (length out) (w .answer) h)
+pub refused-batch-kept : {m : Measured} {items : ℕ} {content body out : List ℕ} {r : Encoded} {later : List ℕ} → BatchWritten m items content body out r later
+    → (r .number ≡ 0 → ⊥) → later ≡ out
+refused-batch-kept {m} {items} {content} {out = out} w h = batch-absent w (refused-length m items content (length out) (w .answer) h)
 
 -- The body writer given no items writes count 0 and the footer: these five bytes,
 module _ (s ns : List ℕ) where

@@ -5,13 +5,15 @@ use mathlib.Core.Path.{_≡_}
 use mathlib.Core.Bool.{Bool}
 use mathlib.Core.List.{List, _++_}
 use lib.ListN.{length}
-use Rattle.log_item.specs.declared.LogItem.{LogItem}
+use Rattle.list_measure.specs.declared.Measured.{Measured}
 use Rattle.list_measure.specs.Answers.{measureOf}
 use Rattle.list_writer.specs.declared.Encoded.{Encoded}
 use Rattle.list_writer.specs.Bytes.{bodyBytes}
 use Rattle.list_writer.specs.Answers.{laid}
 use Rattle.log_batch.specs.Front.{bodyOffset, frontBytes, batchEncoded}
+use Rattle.log_batch.specs.Writing.{listed, tableLengths}
 use Rattle.log_batch.specs.declared.LogBatch.{LogBatch}
+use Rattle.log_batch.specs.declared.LogItemBatch.{LogItemBatch}
 
 -- header, block, body
 unfoldable pub framed : List ℕ → List ℕ → List ℕ
@@ -25,8 +27,13 @@ frameOf content body = record {
   compression = 0;
 }
 
--- the answer r to items xs with the lengths ns of their entries, and the later contents of out: the batch, then what stood there; out as it
--- was where nothing is written
-pub record BatchWritten (checked : Bool) (xs : List LogItem) (ns store content : List ℕ) (signature : ℕ) (out : List ℕ) (r : Encoded) (later : List ℕ) : Type 0 where
-  pub answer : r ≡ batchEncoded (measureOf store checked xs ns) (length xs) content (length out)
-  pub written : later ≡ laid r out 0 (framed content (bodyBytes store xs ns signature))
+-- the answer r to a measured body of so many items, and the later contents of out: the batch, then what stood there; out as it was where
+-- nothing is written
+pub record BatchWritten (m : Measured) (items : ℕ) (content body out : List ℕ) (r : Encoded) (later : List ℕ) : Type 0 where
+  pub answer : r ≡ batchEncoded m items content (length out)
+  pub written : later ≡ laid r out 0 (framed content body)
+
+-- the same of a table's items
+abbrev pub TableWritten : Bool → LogItemBatch → List ℕ → List ℕ → ℕ → List ℕ → Encoded → List ℕ → Type 0
+TableWritten checked t store content signature out r later =
+    BatchWritten (measureOf store checked (listed t) (tableLengths t)) (t .«item_count») content (bodyBytes store (listed t) (tableLengths t) signature) out r later

@@ -22,8 +22,7 @@ ghost use mathlib.Core.Path.{_≡_};
 ghost use mathlib.Core.Bool.{true, false};
 ghost use Rattle.log_batch.specs.Header.{frame, header, headerGot};
 ghost use Rattle.log_batch.specs.Batch.{frontBatch, sealedBatch, readBatch};
-ghost use Rattle.log_batch.specs.Written.{BatchWritten};
-ghost use Rattle.log_batch.specs.Writing.{listed, tableLengths};
+ghost use Rattle.log_batch.specs.Written.{TableWritten};
 use codec::U64Read;
 use log_item::EntryIndex;
 use log_item::LogItem;
@@ -192,7 +191,7 @@ impl LogBatch {
         signature: u32,
         out: &mut [u8],
     ) -> Encoded
-        ensures { λ r. ⌜ BatchWritten true (listed table) (tableLengths table) (now (store .entry)) (now (content .entry)) signature (now (out .entry)) r (now (out .exit)) ⌝ }
+        ensures { λ r. ⌜ TableWritten true table (now (store .entry)) (now (content .entry)) signature (now (out .entry)) r (now (out .exit)) ⌝ }
     {
         let items = table.items;
         let count = table.item_count;
@@ -216,7 +215,7 @@ impl LogBatch {
         signature: u32,
         out: &mut [u8],
     ) -> Encoded
-        ensures { λ r. ⌜ BatchWritten false (listed table) (tableLengths table) (now (store .entry)) (now (content .entry)) signature (now (out .entry)) r (now (out .exit)) ⌝ }
+        ensures { λ r. ⌜ TableWritten false table (now (store .entry)) (now (content .entry)) signature (now (out .entry)) r (now (out .exit)) ⌝ }
     {
         let items = table.items;
         let count = table.item_count;

@@ -8,6 +8,7 @@ use Rattle.one_answer.specs.OneAnswer.{OneAnswer}
 use Rattle.item_row.specs.Reply.{Reply, reply}
 use Rattle.item_row.proofs.Replies.{same}
 use Rattle.list_writer.proofs.Determined.{written-once}
+use Rattle.log_batch.proofs.Determined.{batch-once}
 use Rattle.batch_rows.specs.declared.BatchCheck.{BatchCheck}
 use Rattle.batch_rows.specs.Rows.{BatchReadInto}
 use Rattle.raft_log.specs.Answers.{Replied, checkReply, batchReply, writtenReply}
@@ -103,9 +104,9 @@ write-body κs a x y s t p q =
 pub write-batch : OneAnswer 6 write-batch-kinds.ps write-batch-kinds.r write-batch-reads.Post
     (λ κs x y s t. (x ≡ y) × (now (s .1 .1 .1 .1 .1 .1 .1 .0) ≡ now (t .1 .1 .1 .1 .1 .1 .1 .0)) × (now (s .1 .1 .1 .1 .1 .1 .0) ≡ now (t .1 .1 .1 .1 .1 .1 .0)))
 write-batch κs a x y s t p q =
-    let k : p .answer ≡ q .answer = p .promised .answer ∙ sym (q .promised .answer) in
-    let e = same-replied p q (ap writtenReply k) in
-    (e .0, e .1, p .promised .written ∙ (rw k (sym (q .promised .written))))
+    let k = batch-once (p .promised) (q .promised) in
+    let e = same-replied p q (ap writtenReply (k .0)) in
+    (e .0, e .1, k .1)
 
 pub rewrite : OneAnswer 3 rewrite-kinds.ps rewrite-kinds.r rewrite-reads.Post
     (λ κs x y s t. (x ≡ y) × (now (s .1 .1 .1 .1 .1 .1 .1 .0) ≡ now (t .1 .1 .1 .1 .1 .1 .1 .0)) × (now (s .0) ≡ now (t .0)))

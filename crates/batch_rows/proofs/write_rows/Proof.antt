@@ -1,6 +1,8 @@
 -- `batch_rows::write_rows` meets its contract: the answer is decided first; behind header and block the body has room.
 -- Assumes nothing.
-use Rattle.batch_rows.proofs.RowsWritten.{rows-left, rows-behind, rows-stored}
+use Rattle.log_batch.proofs.Fronts.{body-behind}
+use Rattle.log_batch.proofs.Framing.{batch-left, batch-stored}
+use Rattle.batch_rows.proofs.RowsWritten.{rows-small, rows-sized}
 use borrow.Author.Needs.{needs}
 use Rattle.batch_rows.proofs.write_rows.Statement.{statement}
 use Rattle.batch_rows.proofs.write_rows.Tie as tie
@@ -15,10 +17,10 @@ same-length : tie.Need-same-length
 same-length c = search needs
 
 returns : tie.Need-returns
-returns c = rows-left _ _ _ _ (c .before .before .before .before .before .before .measure-rows .ensures) _ _ (c .before .before .before .before .begin .ensures) _ (c .if1 .taken)
+returns c = batch-left (c .before .before .before .before .before .before .measure-rows .ensures) (rows-sized _ _ _ _ _) (c .before .before .before .before .begin .ensures) (c .if1 .taken)
 
 sub-at : tie.Need-sub-at
-sub-at c = rows-behind _ _ _ _ (c .before .before .before .before .before .before .before .before .measure-rows .ensures) _ _ (c .before .before .before .before .before .before .begin .ensures) (c .before .before .if1 .left)
+sub-at c = body-behind (c .before .before .before .before .before .before .begin .ensures) (rows-small _ _ _ _ (c .before .before .before .before .before .before .before .before .measure-rows .ensures)) (c .before .before .if1 .left)
 
 encode-rows-requires : tie.Need-encode-rows-requires
 encode-rows-requires c κs = search needs
@@ -27,7 +29,7 @@ same-length-2 : tie.Need-same-length-2
 same-length-2 c = search needs
 
 returns-2 : tie.Need-returns-2
-returns-2 c = rows-stored _ _ _ _ (c .before .before .before .before .before .before .before .before .before .before .before .before .measure-rows .ensures) _ _ (c .before .before .before .before .before .before .before .before .before .before .begin .ensures) (c .before .before .before .before .before .before .if1 .left) _ (c .before .before .encode-rows .ensures)
+returns-2 c = batch-stored (c .before .before .before .before .before .before .before .before .before .before .before .before .measure-rows .ensures) (rows-sized _ _ _ _ _) (c .before .before .before .before .before .before .before .before .before .before .begin .ensures) (c .before .before .before .before .before .before .if1 .left) (c .before .before .encode-rows .ensures)
 
 pub write-rows-spec : {M : Type 1} → statement M
 write-rows-spec =
