@@ -1,25 +1,23 @@
 -- What reading a whole batch into lent rows comes to: a law for each way out of the code.
 -- Assumes nothing.
 use Prim.Native.Nat.{ℕ, _-_}
-use mathlib.Core.Path.{_≡_, refl, sym, ap}
+use mathlib.Core.Path.{_≡_, refl, ap}
 use mathlib.Core.List.{List}
-use lib.ListN.{take, drop}
 use Rattle.log_item.specs.Got.{got, refused}
-use Rattle.log_item.specs.declared.Form.the-variants.{Any}
 use Rattle.log_item.specs.declared.Span.{Span}
 use Rattle.refusal.specs.declared.Refusal.{Refusal}
 use Rattle.log_batch.specs.declared.BodyCheck.{BodyCheck}
 use Rattle.log_batch.specs.declared.BodyCheck.the-variants.{Accepted, Refused}
 use Rattle.log_batch.specs.declared.Wanted.the-variants.{Exactly}
-use Rattle.log_batch.specs.Reading.{readItems}
+use Rattle.log_batch.specs.Body.{readBody}
 use Rattle.log_batch.specs.Total.{agreeing}
 use Rattle.rows_reader.specs.Lent.{RowsRead}
-use Rattle.rows_reader.proofs.Reading.{left, same-answer}
+use Rattle.rows_reader.proofs.Reading.{left}
 use Rattle.log_batch.specs.declared.LogBatch.{LogBatch}
 use Rattle.batch_rows.specs.declared.BatchCheck.{BatchCheck}
-use Rattle.log_batch.specs.Batch.{sealedBatch, bodyPlace, blockPlace}
+use Rattle.log_batch.specs.Batch.{frontBatch, bodyOf, batchAnswer}
 use Rattle.batch_rows.specs.Rows.{placeIf, BatchReadInto}
-use Rattle.log_batch.proofs.Frames.{batch-known, batch-rejected, batch-part}
+use Rattle.log_batch.proofs.Frames.{content-known}
 
 abbrev pub checkAt : BodyCheck → Span → Span → BatchCheck
 checkAt check body block = record { check = check; body = placeIf check body; block = placeIf check block }
@@ -37,19 +35,12 @@ both-places body block e = rw e
 -- ---- the batch
 
 module _ (s : List ℕ) (signature : ℕ) (items entries : List ℕ) where
-  pub rows-refused : {n : ℕ} → sealedBatch s signature 0 ≡ refused n
+  pub rows-refused : {n : ℕ} → frontBatch s 0 ≡ refused n
       → BatchReadInto s signature items entries (record { check = Refused (record { number = n; item = 0 }); body = record { at = 0; len = 0 }; block = record { at = 0; len = 0 } }) items entries
-  rows-refused e = record { rows = left items entries (batch-rejected s signature e) refl; body = refl; block = refl }
+  rows-refused e = record { rows = left items entries (ap (batchAnswer s signature) e) refl; body = refl; block = refl }
 
-  pub rows-read : {h : LogBatch} {q n : ℕ} {c : BodyCheck} {r : BatchCheck} {later more : List ℕ} → sealedBatch s signature 0 ≡ got h q → n ≡ h .offset - 16 - 4
-      → RowsRead (agreeing (Exactly n) (readItems Any (take (h .len - 4 - h .offset) (drop (h .offset) s)))) items entries c later more
+  pub rows-read : {h : LogBatch} {q n : ℕ} {c : BodyCheck} {r : BatchCheck} {later more : List ℕ} → frontBatch s 0 ≡ got h q → n ≡ h .offset - 16 - 4
+      → RowsRead (agreeing (Exactly n) (readBody (bodyOf h s) signature)) items entries c later more
       → r ≡ checkAt c (record { at = h .offset; len = h .len - h .offset }) (record { at = 16; len = h .offset - 16 })
       → BatchReadInto s signature items entries r later more
-  rows-read {h} {q} {n} {c} {r} e k w f =
-      let front = sym (batch-known s signature e .front) in
-      rw f
-      (record {
-        rows = same-answer (sym (batch-part s signature e k)) w;
-        body = ap (λ g. placeIf c (bodyPlace g)) front;
-        block = ap (λ g. placeIf c (blockPlace g)) front;
-      })
+  rows-read e k w f = rw f (record { rows = rw (e, content-known s e, ← k) w; body = rw e; block = rw e })

@@ -24,7 +24,7 @@ pub struct BatchCheck {
 pub fn read_rows(buf: &[u8], signature: u32, items: &mut [u64], entries: &mut [u64]) -> BatchCheck
     ensures { λ r. ⌜ BatchReadInto (now (buf .entry)) signature (now (items .entry)) (now (entries .entry)) r (now (items .exit)) (now (entries .exit)) ⌝ }
 {
-    match LogBatch::check_frame(buf, signature) {
+    match LogBatch::check_front(buf) {
         HeaderRead::Refused(number) => BatchCheck {
             check: BodyCheck::Refused(Refusal { number, item: 0 }),
             body: Span { at: 0, len: 0 },
@@ -32,17 +32,23 @@ pub fn read_rows(buf: &[u8], signature: u32, items: &mut [u64], entries: &mut [u
         },
         HeaderRead::Done { batch } => {
             let offset = batch.offset;
-            let end = batch.len - LogBatch::CHECKSUM_LEN;
+            let len = batch.len;
             let body = Span {
                 at: offset,
-                len: batch.len - offset,
+                len: len - offset,
             };
             let block = Span {
                 at: LogBatch::HEADER_LEN,
                 len: offset - LogBatch::HEADER_LEN,
             };
             let wanted = Wanted::Exactly(log_batch::content_len(block.len));
-            let check = rows_reader::read_items(&buf[offset..end], wanted, items, entries);
+            let check = rows_reader::read_body(
+                &buf[offset..len],
+                signature,
+                wanted,
+                items,
+                entries,
+            );
             with_places(check, body, block)
         }
     }

@@ -48,8 +48,8 @@ use Rattle.log_batch.proofs.LogBatch.decode_header.Kinds as decode-head
 use Rattle.log_batch.proofs.LogBatch.decode_header.Reads as decode-header-reads
 use Rattle.log_batch.proofs.LogBatch.decode.Kinds as decode-log-batch-kinds
 use Rattle.log_batch.proofs.LogBatch.decode.Reads as decode-log-batch-reads
-use Rattle.log_batch.proofs.LogBatch.check_frame.Kinds as check-frame-kinds
-use Rattle.log_batch.proofs.LogBatch.check_frame.Reads as check-frame-reads
+use Rattle.log_batch.proofs.LogBatch.check_front.Kinds as check-front-kinds
+use Rattle.log_batch.proofs.LogBatch.check_front.Reads as check-front-reads
 use Rattle.log_batch.proofs.LogBatch.encode.Kinds as encode-log-batch-kinds
 use Rattle.log_batch.proofs.LogBatch.encode.Reads as encode-log-batch-reads
 use Rattle.log_batch.proofs.LogBatch.encode_unchecked.Kinds as encode-unchecked-log-batch-kinds
@@ -116,8 +116,8 @@ decode-header κs a x y s t p q = header-same x y (p ∙ sym q)
 pub decode-log-batch : OneAnswer 1 decode-log-batch-kinds.ps decode-log-batch-kinds.r decode-log-batch-reads.Post (λ κs x y s t. x ≡ y)
 decode-log-batch κs a x y s t p q = p ∙ sym q
 
-pub check-frame : OneAnswer 1 check-frame-kinds.ps check-frame-kinds.r check-frame-reads.Post (λ κs x y s t. x ≡ y)
-check-frame κs a x y s t p q = header-same x y (p ∙ sym q)
+pub check-front : OneAnswer 1 check-front-kinds.ps check-front-kinds.r check-front-reads.Post (λ κs x y s t. x ≡ y)
+check-front κs a x y s t p q = header-same x y (p ∙ sym q)
 
 -- A measured batch has one answer, and leaves one buffer.
 pub batch-once : {m : Measured} {items : ℕ} {content body out : List ℕ} {x y : Encoded} {later other : List ℕ} → BatchWritten m items content body out x later

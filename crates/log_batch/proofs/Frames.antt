@@ -1,32 +1,28 @@
--- What reading a header, the seals of a batch and the whole come to: a law for each way out of the code.
+-- What reading a header, the front of a batch and the whole come to: a law for each way out of the code.
 -- Assumes nothing.
-use Prim.Native.Nat.{ℕ, zero, suc, _+_, _-_, _/_, _%_, _≤_, _<_}
+use Prim.Native.Nat.{ℕ, _-_, _/_, _%_, _≤_, _<_}
 use mathlib.Core.Path.{_≡_, refl, sym, ap, ap₂, _∙_}
 use mathlib.Core.List.{List}
 use native.Mathlib.Omega.{arith}
 use borrow.Author.Tests.{le-leb, lt-leb, eq-eqb, ne-eqb}
 use lib.ListN.{length, take, drop, length-take, length-drop}
-use lib.Seq.{take-take}
 use Rattle.words.specs.Word.{bigEndian, readU64}
 use Rattle.words.specs.declared.U64Read.the-variants.{Done, Eof}
 use Rattle.words.proofs.Words.{u64-known, u64-ended}
-use Rattle.log_item.specs.Got.{Got, got, refused, done, _>>_}
-use Rattle.log_item.specs.declared.Form.the-variants.{Any}
+use Rattle.log_item.specs.Got.{got, refused, done, _>>_}
 use Rattle.log_item.specs.declared.Span.{Span}
-use Rattle.log_item.proofs.Holds.{Holds, holds, refuses, after, at-most, equal, of-got}
+use Rattle.log_item.proofs.Holds.{Holds, holds, after, at-most, equal, of-got}
 use Rattle.log_batch.specs.declared.LogItemBatch.{LogItemBatch}
 use Rattle.log_batch.specs.declared.Wanted.the-variants.{Exactly}
-use Rattle.log_batch.specs.Reading.{Answer, accepted, rejected, readItems}
+use Rattle.log_batch.specs.Reading.{Answer, accepted, rejected}
 use Rattle.log_batch.specs.Body.{readBody}
-use Rattle.log_batch.proofs.Sealed.{body-refused, body-sealed}
 use Rattle.log_batch.proofs.NonZero.{refusal-some}
-use Rattle.log_batch.specs.Seal.{sealedPart, sealCheck, blockCheck, contentLength}
+use Rattle.log_batch.specs.Seal.{blockCheck, contentLength}
 use Rattle.log_batch.specs.Total.{agreeing}
 use Rattle.log_batch.specs.Table.{emptyTable, tableOf}
-use Rattle.log_batch.proofs.Sealing.{seal-long}
 use Rattle.log_batch.specs.declared.LogBatch.{LogBatch}
 use Rattle.log_batch.specs.Header.{frame, header}
-use Rattle.log_batch.specs.Batch.{blockOf, bodyOf, passes, frontBatch, batchAnswer, readBatch, sealedBatch}
+use Rattle.log_batch.specs.Batch.{blockOf, bodyOf, passes, frontBatch, readBatch}
 
 -- ---- the two words
 
@@ -142,89 +138,11 @@ module _ (s : List ℕ) where
   pub front-known : {h : LogBatch} {q : ℕ} → frontBatch s 0 ≡ got h q → Front h
   front-known e = of-got (front-holds 0) e
 
--- ---- the batch up to the checksum of its body
-
-module _ (s : List ℕ) (signature : ℕ) where
-  pub batch-refused : {r : ℕ} → frontBatch s 0 ≡ refused r → refused r ≡ sealedBatch s signature 0
-  unfolding sealedBatch
-  batch-refused e = rw e
-
-  module _ {h : LogBatch} {q : ℕ} (e : frontBatch s 0 ≡ got h q) {n : ℕ} (sealed : n ≡ sealCheck (bodyOf h s) signature) where
-    pub batch-broken : (n ≡ 0 → ⊥) → refused n ≡ sealedBatch s signature 0
-    unfolding sealedBatch
-    batch-broken k = rw e (fails h q (sealCheck (bodyOf h s) signature) sealed k)
-
-    pub batch-good : n ≡ 0 → got h q ≡ sealedBatch s signature 0
-    unfolding sealedBatch
-    batch-good k = rw e (passed h q (sealCheck (bodyOf h s) signature) sealed k)
-
-  -- The body of a good batch has more than its footer, lies in the bytes, and its seal is right.
-  pub record Framed (h : LogBatch) (q : ℕ) : Type 0 where
-    pub front : frontBatch s 0 ≡ got h q
-    pub start : 16 ≤ h .offset
-    pub long : h .offset + 4 < h .len
-    pub there : h .len ≤ length s
-    pub sealed : sealCheck (bodyOf h s) signature ≡ 0
-
-  itself : (m : Got LogBatch) → Holds (λ h q. m ≡ got h q) m
-  itself (got h q) = holds refl
-  itself (refused r) = refuses
-
-  sealed-holds : Holds (λ h q. Framed h q) (sealedBatch s signature 0)
-  unfolding sealedBatch
-  sealed-holds =
-      after (itself (frontBatch s 0)) λ h q e.
-      equal (sealCheck (bodyOf h s) signature) 0 (sealCheck (bodyOf h s) signature) _ q λ body.
-      let k = front-known s e in
-      let long : 4 < length (bodyOf h s) = seal-long (bodyOf h s) signature body in
-      holds (record {
-        front = e;
-        start = k .start;
-        long = omega (arith, length-take (h .len - h .offset) (drop (h .offset) s), length-drop (h .offset) s);
-        there = k .there;
-        sealed = body;
-      })
-
-  pub batch-known : {h : LogBatch} {q : ℕ} → sealedBatch s signature 0 ≡ got h q → Framed h q
-  batch-known e = of-got sealed-holds e
-
-  -- ---- what the whole batch then comes to
-
-  -- A frame that is refused, for its front or for the checksum of its body, is a batch refused with that number.
-  pub batch-rejected : {r : ℕ} → sealedBatch s signature 0 ≡ refused r → batchAnswer s signature (frontBatch s 0) ≡ rejected r 0
-  batch-rejected {r} e = go (frontBatch s 0) refl
-    where
-      at-seal : (h : LogBatch) (q : ℕ) → frontBatch s 0 ≡ got h q → (n : ℕ) → n ≡ sealCheck (bodyOf h s) signature
-          → batchAnswer s signature (got h q) ≡ rejected r 0
-      at-seal h q f zero k = let wrong : got h q ≡ refused r = batch-good f k refl ∙ e in cc
-      at-seal h q f (suc n) k =
-          let some : suc n ≡ 0 → ⊥ = λ z. omega arith in
-          let same : _≡_ {A = Got LogBatch} (refused (suc n)) (refused r) = batch-broken f k some ∙ e in
-          rw (body-refused (bodyOf h s) signature k some) cc
-
-      go : (g : Got LogBatch) → frontBatch s 0 ≡ g → batchAnswer s signature g ≡ rejected r 0
-      go (refused n) f = let same : _≡_ {A = Got LogBatch} (refused n) (refused r) = batch-refused f ∙ e in cc
-      go (got h q) f = at-seal h q f (sealCheck (bodyOf h s) signature) refl
-
-  module _ {h : LogBatch} {q : ℕ} (e : sealedBatch s signature 0 ≡ got h q) where
-    body-part : take (h .len - 4 - h .offset) (drop (h .offset) s) ≡ sealedPart (bodyOf h s)
-    body-part =
-        let f = batch-known e in
-        let size : length (bodyOf h s) ≡ h .len - h .offset =
-        omega (arith, f .there, length-take (h .len - h .offset) (drop (h .offset) s), length-drop (h .offset) s) in
-        let less : h .len - h .offset - 4 ≤ h .len - h .offset = omega arith in
-        let same : h .len - 4 - h .offset ≡ h .len - h .offset - 4 = omega arith in
-        rw (size, take-take (h .len - h .offset - 4) (h .len - h .offset) (drop (h .offset) s) less) (ap (λ (n : ℕ). take n (drop (h .offset) s)) same)
-
-    -- Behind a right checksum it is what the items come to; the entry total that is wanted is the length of the block's content.
-    pub batch-part : {n : ℕ} → n ≡ h .offset - 16 - 4
-        → agreeing (Exactly n) (readItems Any (take (h .len - 4 - h .offset) (drop (h .offset) s)))
-        ≡ batchAnswer s signature (frontBatch s 0)
-    batch-part k =
-        let g = batch-known e in
-        let size : h .offset - 16 - 4 ≡ contentLength (blockOf h s) =
-        omega (arith, g .start, g .long, g .there, length-take (h .offset - 16) (drop 16 s), length-drop 16 s) in
-        rw (g .front, body-sealed (bodyOf h s) signature refl (g .sealed)) (ap₂ (λ (m : ℕ) (l : List ℕ). agreeing (Exactly m) (readItems Any l)) (k ∙ size) body-part)
+  -- The block has as much content as its length leaves beside a checksum.
+  pub content-known : {h : LogBatch} {q : ℕ} → frontBatch s 0 ≡ got h q → contentLength (blockOf h s) ≡ h .offset - 16 - 4
+  content-known {h} e =
+      let g = front-known e in
+      omega (arith, g .start, g .inside, g .there, length-take (h .offset - 16) (drop 16 s), length-drop 16 s)
 
 -- ---- the table
 
@@ -237,11 +155,7 @@ table-of : (s : List ℕ) (signature : ℕ) {h : LogBatch} {q : ℕ} → frontBa
     → readBatch s signature ≡ tableOf (record { at = h .offset; len = h .len - h .offset }) (record { at = 16; len = h .offset - 16 })
     (agreeing (Exactly (h .offset - 16 - 4)) (readBody (bodyOf h s) signature))
 unfolding readBatch
-table-of s signature {h} {q} e =
-    let g = front-known s e in
-    let size : contentLength (blockOf h s) ≡ h .offset - 16 - 4 =
-    omega (arith, g .start, g .inside, g .there, length-take (h .offset - 16) (drop 16 s), length-drop 16 s) in
-    rw (e, size)
+table-of s signature e = rw (e, content-known s e)
 
 -- a table with other places
 abbrev pub withPlaces : Span → Span → LogItemBatch → LogItemBatch

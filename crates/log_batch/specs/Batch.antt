@@ -11,7 +11,7 @@ use Rattle.log_batch.specs.declared.Wanted.the-variants.{Exactly}
 use Rattle.log_batch.specs.Reading.{Answer, rejected}
 use Rattle.log_batch.specs.Body.{readBody}
 use Rattle.log_batch.specs.Total.{agreeing}
-use Rattle.log_batch.specs.Seal.{sealCheck, blockCheck, contentLength}
+use Rattle.log_batch.specs.Seal.{blockCheck, contentLength}
 use Rattle.log_batch.specs.Table.{tableOf}
 use Rattle.log_batch.specs.declared.LogBatch.{LogBatch}
 use Rattle.log_batch.specs.Header.{header}
@@ -53,10 +53,3 @@ blockPlace (refused r) = record { at = 0; len = 0 }
 -- the table of the whole
 unfoldable pub readBatch : List ℕ → ℕ → LogItemBatch
 readBatch s signature = let g = frontBatch s 0 in tableOf (bodyPlace g) (blockPlace g) (batchAnswer s signature g)
-
--- for a reading of the body that follows: the frame of a batch whose body has the right checksum too
-unfoldable pub sealedBatch : List ℕ → ℕ → Reading LogBatch
-sealedBatch s signature = do
-  h ← frontBatch s
-  passes (sealCheck (bodyOf h s) signature)
-  done h

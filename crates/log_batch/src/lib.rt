@@ -21,7 +21,7 @@ pub use view::entry_view;
 ghost use mathlib.Core.Path.{_≡_};
 ghost use mathlib.Core.Bool.{true, false};
 ghost use Rattle.log_batch.specs.Header.{frame, header, headerGot};
-ghost use Rattle.log_batch.specs.Batch.{frontBatch, sealedBatch, readBatch};
+ghost use Rattle.log_batch.specs.Batch.{frontBatch, readBatch};
 ghost use Rattle.log_batch.specs.Written.{TableWritten};
 use codec::U64Read;
 use log_item::EntryIndex;
@@ -131,16 +131,22 @@ impl LogBatch {
         }
     }
 
-    // The frame of a batch whose header, length, compression type, block and checksum of the body are right.
-    pub fn check_frame(buf: &[u8], signature: u32) -> HeaderRead
-        ensures { λ r. ⌜ headerGot r ≡ sealedBatch (now (buf .entry)) signature 0 ⌝ }
+    // The frame of a batch whose header, length, compression type and block are right.
+    pub fn check_front(buf: &[u8]) -> HeaderRead
+        ensures { λ r. ⌜ headerGot r ≡ frontBatch (now (buf .entry)) 0 ⌝ }
     {
-        match check_front(buf) {
+        match LogBatch::decode_header(buf) {
             HeaderRead::Refused(number) => HeaderRead::Refused(number),
             HeaderRead::Done { batch } => {
+                let start = LogBatch::HEADER_LEN;
                 let offset = batch.offset;
-                let len = batch.len;
-                let broken = check_seal(&buf[offset..len], signature);
+                if buf.len() < batch.len {
+                    return HeaderRead::Refused(refusal::BATCH_SHORT);
+                }
+                if batch.compression != 0 {
+                    return HeaderRead::Refused(refusal::COMPRESSED);
+                }
+                let broken = check_block(&buf[start..offset]);
                 if broken != refusal::NONE {
                     return HeaderRead::Refused(broken);
                 }
@@ -153,7 +159,7 @@ impl LogBatch {
     pub fn decode(buf: &[u8], signature: u32) -> LogItemBatch
         ensures { λ r. ⌜ r ≡ readBatch (now (buf .entry)) signature ⌝ }
     {
-        match check_front(buf) {
+        match LogBatch::check_front(buf) {
             HeaderRead::Refused(number) => LogItemBatch::empty(number, 0),
             HeaderRead::Done { batch } => {
                 let offset = batch.offset;
@@ -264,29 +270,5 @@ fn read_frame(first: u64, second: u64) -> HeaderRead
             len,
             compression,
         },
-    }
-}
-
-// The frame of a batch whose header, length, compression type and block are right.
-fn check_front(buf: &[u8]) -> HeaderRead
-    ensures { λ r. ⌜ headerGot r ≡ frontBatch (now (buf .entry)) 0 ⌝ }
-{
-    match LogBatch::decode_header(buf) {
-        HeaderRead::Refused(number) => HeaderRead::Refused(number),
-        HeaderRead::Done { batch } => {
-            let start = LogBatch::HEADER_LEN;
-            let offset = batch.offset;
-            if buf.len() < batch.len {
-                return HeaderRead::Refused(refusal::BATCH_SHORT);
-            }
-            if batch.compression != 0 {
-                return HeaderRead::Refused(refusal::COMPRESSED);
-            }
-            let broken = check_block(&buf[start..offset]);
-            if broken != refusal::NONE {
-                return HeaderRead::Refused(broken);
-            }
-            HeaderRead::Done { batch }
-        }
     }
 }

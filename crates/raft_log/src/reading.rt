@@ -8,6 +8,7 @@ ghost use Rattle.raft_log.specs.Answers.{Replied, checkReply, batchReply
 use crate::put_check;
 use batch_rows::BatchCheck;
 use log_batch::BodyCheck;
+use log_batch::Wanted;
 
 // A body, read into rows.
 #[no_mangle]
@@ -20,7 +21,7 @@ pub extern "C" fn raft_log_read_body(
 ) -> u32
     ensures { λ r. ⌜ Replied (λ a. RowsRead (readBody (now (body .entry)) signature) (now (items .entry)) (now (entries .entry)) a (now (items .exit)) (now (entries .exit))) checkReply (reply r (now (answer .exit))) ⌝ }
 {
-    let r = rows_reader::read_body(body, signature, items, entries);
+    let r = rows_reader::read_body(body, signature, Wanted::Free, items, entries);
     put_check(r, answer)
 }
 

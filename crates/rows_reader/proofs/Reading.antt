@@ -7,7 +7,6 @@ use mathlib.Core.List.{List}
 use native.Mathlib.Omega.{arith}
 use borrow.Author.Tests.{le-leb, lt-leb, eq-eqb, ne-eqb}
 use lib.ListN.{length}
-use Rattle.refusal.specs.declared.Refusal.{Refusal}
 use Rattle.log_item.specs.declared.Form.the-variants.{Any}
 use Rattle.log_item.specs.declared.LogItem.{LogItem}
 use Rattle.log_item.specs.declared.EntryIndex.{EntryIndex}
@@ -18,7 +17,7 @@ use Rattle.log_batch.specs.declared.Wanted.{Wanted}
 use Rattle.log_batch.specs.declared.Wanted.the-variants.{Free, Exactly}
 use Rattle.log_batch.specs.Reading.{Answer, accepted, rejected, readItems}
 use Rattle.log_batch.specs.Answers.{checkOf}
-use Rattle.log_batch.proofs.Checking.{told, refusal-told}
+use Rattle.log_batch.proofs.Checking.{told}
 use Rattle.log_batch.specs.Total.{agreeing}
 use Rattle.rows_reader.specs.Lent.{Filled, RowsRead}
 use Rattle.rows_reader.specs.Private.{Fits}
@@ -36,9 +35,9 @@ pub same-answer : {a b : Answer} {items entries later more : List ℕ} {r : Body
 same-answer e w = rw e w
 
 -- A refusal stays as it is, whatever is wanted.
-pub kept : (wanted : Wanted) (a : Answer) {x : Refusal} → Refused x ≡ checkOf a → agreeing wanted a ≡ rejected (x .number) (x .item)
-kept Free a e = refusal-told a e
-kept (Exactly n) a e = rw (refusal-told a e)
+pub kept : (wanted : Wanted) {a : Answer} {n i : ℕ} → a ≡ rejected n i → agreeing wanted a ≡ rejected n i
+kept Free e = e
+kept (Exactly n) e = rw e
 
 -- ---- a body that is accepted
 

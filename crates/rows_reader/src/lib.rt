@@ -25,9 +25,27 @@ use log_item::Op;
 use log_item::TailRead;
 use refusal::Refusal;
 
-// What a body without its footer holds, where it comes to the entry total that is wanted (else 20) and all its rows fit in those that are
-// lent (else 21).
-pub fn read_items(buf: &[u8], wanted: Wanted, items: &mut [u64], entries: &mut [u64]) -> BodyCheck
+// What a body with its footer holds, under a signature, where it comes to the entry total that is wanted (else 20) and all its rows fit in
+// those that are lent (else 21).
+pub fn read_body(
+    body: &[u8],
+    signature: u32,
+    wanted: Wanted,
+    items: &mut [u64],
+    entries: &mut [u64],
+) -> BodyCheck
+    ensures { λ r. ⌜ RowsRead (agreeing wanted (readBody (now (body .entry)) signature)) (now (items .entry)) (now (entries .entry)) r (now (items .exit)) (now (entries .exit)) ⌝ }
+{
+    let broken = log_batch::check_seal(body, signature);
+    if broken != refusal::NONE {
+        return refuse(broken);
+    }
+    let n = body.len() - 4;
+    read_items(&body[..n], wanted, items, entries)
+}
+
+// The same of a body without its footer.
+fn read_items(buf: &[u8], wanted: Wanted, items: &mut [u64], entries: &mut [u64]) -> BodyCheck
     ensures { λ r. ⌜ RowsRead (agreeing wanted (readItems Any (now (buf .entry)))) (now (items .entry)) (now (entries .entry)) r (now (items .exit)) (now (entries .exit)) ⌝ }
 {
     match log_batch::check_items(buf) {
@@ -58,18 +76,6 @@ pub fn read_items(buf: &[u8], wanted: Wanted, items: &mut [u64], entries: &mut [
             }
         }
     }
-}
-
-// What a body with its footer holds, under a signature; 21 where its rows do not fit.
-pub fn read_body(body: &[u8], signature: u32, items: &mut [u64], entries: &mut [u64]) -> BodyCheck
-    ensures { λ r. ⌜ RowsRead (readBody (now (body .entry)) signature) (now (items .entry)) (now (entries .entry)) r (now (items .exit)) (now (entries .exit)) ⌝ }
-{
-    let broken = log_batch::check_seal(body, signature);
-    if broken != refusal::NONE {
-        return refuse(broken);
-    }
-    let n = body.len() - 4;
-    read_items(&body[..n], Wanted::Free, items, entries)
 }
 
 fn refuse(number: u32) -> BodyCheck

@@ -1,12 +1,13 @@
 -- `rows_reader::read_body` meets its contract: the seal, then what stands before the footer.
 -- Assumes nothing.
-use Rattle.rows_reader.proofs.Reading.{left, same-answer}
+use Rattle.rows_reader.proofs.Reading.{left, same-answer, kept}
 use Rattle.log_batch.proofs.Sealing.{seal-long}
 use Rattle.log_batch.proofs.Sealed.{body-refused, body-sealed}
 use native.Mathlib.Omega.{arith}
 use lib.Seq.{length-take-le}
 use denote.Ref.{now}
-use mathlib.Core.Path.{sym, _∙_}
+use Rattle.log_batch.specs.Total.{agreeing}
+use mathlib.Core.Path.{sym, ap, _∙_}
 use borrow.Author.Needs.{needs}
 use Rattle.rows_reader.proofs.read_body.Statement.{statement}
 use Rattle.rows_reader.proofs.read_body.Tie as tie
@@ -18,7 +19,7 @@ refuse-requires : tie.Need-refuse-requires
 refuse-requires c κs = search needs
 
 returns : tie.Need-returns
-returns c = left _ _ (body-refused _ _ (c .before .before .check-seal .ensures) (c .before .if1 .taken)) (c .refuse .ensures)
+returns c = left _ _ (kept (c .before .before .before .before .before .before .args .wanted) (body-refused _ _ (c .before .before .check-seal .ensures) (c .before .if1 .taken))) (c .refuse .ensures)
 
 sub-n : tie.Need-sub-n
 sub-n c = let a = c .before .before .before .before .before .args in omega (arith, seal-long (now (a .body)) (a .signature) (sym (c .before .check-seal .ensures) ∙ c .if1 .left))
@@ -36,7 +37,7 @@ same-length-2 : tie.Need-same-length-2
 same-length-2 c = search needs
 
 returns-2 : tie.Need-returns-2
-returns-2 c = same-answer (body-sealed _ _ (c .before .before .before .before .before .before .before .before .before .check-seal .ensures) (c .before .before .before .before .before .before .before .before .if1 .left)) (c .before .before .before .before .read-items .ensures)
+returns-2 c = same-answer (ap (agreeing (c .before .before .before .before .before .before .before .before .before .before .before .before .before .args .wanted)) (body-sealed _ _ (c .before .before .before .before .before .before .before .before .before .check-seal .ensures) (c .before .before .before .before .before .before .before .before .if1 .left))) (c .before .before .before .before .read-items .ensures)
 
 pub read-body-spec : {M : Type 1} → statement M
 read-body-spec =

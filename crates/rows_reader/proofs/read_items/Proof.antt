@@ -2,6 +2,7 @@
 -- Assumes nothing.
 use Rattle.log_batch.specs.Reading.{readItems}
 use Rattle.log_item.specs.declared.Form.the-variants.{Any}
+use Rattle.log_batch.proofs.Checking.{refusal-told}
 use denote.Ref.{now}
 use Rattle.rows_reader.proofs.Reading.{left, kept, agreed-free, agreed-same, differs, short-items, short-entries, fits, read}
 use mathlib.Core.Logic.{⊎-elim}
@@ -50,7 +51,7 @@ fill-requires : tie.Need-fill-requires
 fill-requires c κs = let e = sym (c .before .before .before .before .before .before .many .given .1) ∙ c .before .before .before .before .before .before .before .before .check-items .ensures in fits (⊎-elim (λ w. agreed-same _ _ e (w .1 .given .1) (w .3 .left)) (λ w. agreed-free _ _ e (w .1 .given .1)) (c .before .before .before .before .match2 .came)) _ _ (c .before .before .before .if2 .left) (c .before .before .if3 .left) refl
 
 returns-4 : tie.Need-returns-4
-returns-4 c = left _ _ (kept (c .before .before .before .before .before .before .before .args .wanted) (readItems Any (now (c .before .before .before .before .before .before .before .args .buf))) (sym (c .before .refusal .given .1) ∙ c .before .before .before .check-items .ensures)) refl
+returns-4 c = left _ _ (kept (c .before .before .before .before .before .before .before .args .wanted) (refusal-told (readItems Any (now (c .before .before .before .before .before .before .before .args .buf))) (sym (c .before .refusal .given .1) ∙ c .before .before .before .check-items .ensures))) refl
 
 same-length : tie.Need-same-length
 same-length c = search needs

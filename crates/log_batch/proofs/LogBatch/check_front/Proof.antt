@@ -1,4 +1,4 @@
--- `log_batch::check_front` meets its contract.
+-- `log_batch::LogBatch::check_front` meets its contract.
 -- Assumes nothing.
 use Rattle.log_item.proofs.Smallest.{learnt}
 use Rattle.log_batch.specs.Header.{headerGot}
@@ -6,8 +6,8 @@ use denote.Ref.{now}
 use Rattle.log_batch.proofs.Frames.{header-known, front-refused, front-short, front-compressed, front-broken, front-good}
 use native.Mathlib.Omega.{arith}
 use borrow.Author.Needs.{needs}
-use Rattle.log_batch.proofs.check_front.Statement.{statement}
-use Rattle.log_batch.proofs.check_front.Tie as tie
+use Rattle.log_batch.proofs.LogBatch.check_front.Statement.{statement}
+use Rattle.log_batch.proofs.LogBatch.check_front.Tie as tie
 
 decode-header-requires : tie.Need-decode-header-requires
 decode-header-requires c κs = search needs
