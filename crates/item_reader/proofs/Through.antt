@@ -7,7 +7,7 @@ use native.Mathlib.Omega.{arith}
 use lib.ListN.{length}
 use denote.Ref.{now}
 use Rattle.log_item.specs.Got.{Got, got, refused, done, bind}
-use Rattle.log_item.specs.Entries.{entriesOf}
+use Rattle.log_item.specs.Entries.{entriesOf, tailRow}
 use Rattle.log_item.specs.Reading.{Read, head, tail, tails, oneItem}
 use Rattle.log_item.specs.declared.Form.the-variants.{Any}
 use Rattle.log_item.specs.declared.LogItem.{LogItem}
@@ -44,21 +44,21 @@ module _ (s : List ℕ) where
           → GoesThrough s (record { at = q; total = w; index = (j + 1) % 2 ^ 64; left = n }) (r .0)
 
       by-rows : Ih → (w q : ℕ) → tail Any s t p ≡ got w q → (g : Got (List EntryIndex × ℕ)) → tails Any s n (i + 1) w q ≡ g
-          → bind g (λ r. done (record { index = i; «entry_offset» = t; «entry_len» = w - t } ∷ r .0, r .1)) ≡ got r z
+          → bind g (λ r. done (tailRow i t w ∷ r .0, r .1)) ≡ got r z
           → GoesThrough s (record { at = p; total = t; index = j; left = suc n }) (r .0)
       by-rows ih w q f (got o y) h c =
           let here : j ≡ i = same (omega arith) in
           let less : suc n - 1 ≡ n = omega arith in
-          let rows : r .0 ≡ record { index = i; «entry_offset» = t; «entry_len» = w - t } ∷ o .0 = cc in
+          let rows : r .0 ≡ tailRow i t w ∷ o .0 = cc in
           let turns : 0 < n → (j + 1) % 2 ^ 64 ≡ i + 1 = λ some. omega (arith, fits (omega arith)) in
           let room : 0 < n → i + 1 + n ≤ 2 ^ 64 = λ some. omega (arith, fits (omega arith)) in
           let first : nextRow s (record { at = p; total = t; index = j; left = suc n })
-          ≡ row.Row (record { index = i; «entry_offset» = t; «entry_len» = w - t }) (record { at = q; total = w; index = (j + 1) % 2 ^ 64; left = n }) = rw (f, here, less) in
+          ≡ row.Row (tailRow i t w) (record { at = q; total = w; index = (j + 1) % 2 ^ 64; left = n }) = rw (f, here, less) in
           rw rows (go.GoesThrough.then first (ih w q o y turns room h))
       by-rows ih w q f (refused m) h c = let o : _≡_ {A = ℕ} 0 1 = cc in absurd (omega arith)
 
       by-tail : Ih → (g : Got ℕ) → tail Any s t p ≡ g
-          → bind g (λ w q. bind (tails Any s n (i + 1) w q) (λ r. done (record { index = i; «entry_offset» = t; «entry_len» = w - t } ∷ r .0, r .1))) ≡ got r z
+          → bind g (λ w q. bind (tails Any s n (i + 1) w q) (λ r. done (tailRow i t w ∷ r .0, r .1))) ≡ got r z
           → GoesThrough s (record { at = p; total = t; index = j; left = suc n }) (r .0)
       by-tail ih (got w q) f c = by-rows ih w q f (tails Any s n (i + 1) w q) refl c
       by-tail ih (refused m) f c = let o : _≡_ {A = ℕ} 0 1 = cc in absurd (omega arith)

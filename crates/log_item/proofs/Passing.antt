@@ -6,7 +6,7 @@ use mathlib.Core.Path.{_≡_, refl, sym, ap, _∙_}
 use mathlib.Core.List.{List, _∷_}
 use lib.ListN.{length}
 use Rattle.log_item.specs.Got.{Got, got, refused, Reading, done, bind}
-use Rattle.log_item.specs.Entries.{entriesOf}
+use Rattle.log_item.specs.Entries.{entriesOf, tailRow}
 use Rattle.log_item.specs.Reading.{Read, head, tail, tails, oneItem}
 use Rattle.log_item.specs.Answers.{Counted, passItem, passTails}
 use Rattle.log_item.specs.declared.Form.{Form}
@@ -45,8 +45,8 @@ module _ (form : Form) (s : List ℕ) where
   any-index (suc n) i j t p = go (λ w q. any-index n (i + 1) (j + 1) w q) (tail form s t p)
     where
       go : ((w q : ℕ) → totalOf (tails form s n (i + 1) w q) ≡ totalOf (tails form s n (j + 1) w q)) → (g : Got ℕ)
-          → totalOf (bind g (λ w q. bind (tails form s n (i + 1) w q) (λ r. done (record { index = i; «entry_offset» = t; «entry_len» = w - t } ∷ r .0, r .1))))
-          ≡ totalOf (bind g (λ w q. bind (tails form s n (j + 1) w q) (λ r. done (record { index = j; «entry_offset» = t; «entry_len» = w - t } ∷ r .0, r .1))))
+          → totalOf (bind g (λ w q. bind (tails form s n (i + 1) w q) (λ r. done (tailRow i t w ∷ r .0, r .1))))
+          ≡ totalOf (bind g (λ w q. bind (tails form s n (j + 1) w q) (λ r. done (tailRow j t w ∷ r .0, r .1))))
       go ih (got w q) = row-ahead _ (tails form s n (i + 1) w q) ∙ ih w q ∙ sym (row-ahead _ (tails form s n (j + 1) w q))
       go ih (refused r) = refl
 

@@ -18,7 +18,7 @@ use Rattle.numbers.specs.declared.NumberRead.{NumberRead}
 use Rattle.numbers.specs.declared.NumberRead.the-variants.{Done}
 use Rattle.numbers.proofs.NumberRead.{the-type}
 use Rattle.log_item.specs.Got.{got, refused}
-use Rattle.log_item.specs.Entries.{entriesOf}
+use Rattle.log_item.specs.Entries.{entriesOf, tailRow}
 use Rattle.log_item.specs.Reading.{head, tail}
 use Rattle.log_item.specs.Blank.{blankItem, blankEntry}
 use Rattle.log_item.specs.declared.Form.the-variants.{Any}
@@ -33,7 +33,7 @@ use Rattle.log_item.proofs.Smallest.{number-any, number-broken}
 use Rattle.log_batch.specs.Reading.{Answer, accepted, rejected, readItems}
 use Rattle.log_batch.proofs.Checking.{count-broken, count-many}
 use Rattle.log_batch.proofs.Rows.{rows-take, rows-length}
-use Rattle.log_batch.proofs.Coming.{prepend, rowOf, rest}
+use Rattle.log_batch.proofs.Coming.{prepend, rest}
 use Rattle.log_batch.proofs.Filling.{Filling, not-done, begun, next-row, row-refused, ended, next-item, item-refused}
 use Rattle.rows_reader.specs.Lent.{Filled}
 use Rattle.rows_reader.specs.Private.{Words, Fits}
@@ -119,15 +119,15 @@ module _ {s items₀ entries₀ : List ℕ} (f : Fits s items₀ entries₀) whe
         unfolding entryWords
         storing-row {other} {later} h l =
             let below : j < 1024 = omega (arith, w .filling .room) in
-            let one : Stored entries (j * 3) (entryWords (rowOf index t u)) ((j + 1) * 3) later = record { after = omega arith; stored = l .stored } in
+            let one : Stored entries (j * 3) (entryWords (tailRow index t u)) ((j + 1) * 3) later = record { after = omega arith; stored = l .stored } in
             record {
               table = w .table;
-              lines = set (w .lines) j (rowOf index t u);
+              lines = set (w .lines) j (tailRow index t u);
               filling = next-row (w .filling) some e h;
               item-rows = w .item-rows;
               entry-rows =
                   stored-same
-                  (ap entriesWords (rows-take (w .filling .filled-rows) (rowOf index t u) below) ∙ flat-more entryWords (take j (w .lines)) (rowOf index t u))
+                  (ap entriesWords (rows-take (w .filling .filled-rows) (tailRow index t u) below) ∙ flat-more entryWords (take j (w .lines)) (tailRow index t u))
                   (stored-then (w .entry-rows) one);
             }
 
