@@ -2,7 +2,8 @@
 -- Assumes nothing.
 use Prim.Native.Nat.{ℕ, _+_, _-_, _*_, _≤_, _<_}
 use mathlib.Core.Path.{_≡_, refl, sym, ap, _∙_}
-use mathlib.Core.Bool.{Bool, true, false}
+use mathlib.Core.Logic.{_⊎_, inl, inr}
+use mathlib.Core.Bool.{Bool, true, false, cond}
 use mathlib.Core.List.{List, _++_}
 use native.Mathlib.Omega.{arith}
 use lib.Dec.{ltb}
@@ -18,15 +19,54 @@ use Rattle.log_item.specs.Refusing.{contentRefusal}
 use Rattle.log_item.specs.Written.{capped, measureItem}
 use Rattle.log_item.proofs.Refusals.{content-allowed}
 use Rattle.log_item.specs.Blank.{blankItem}
+use Rattle.list_measure.specs.declared.Measured.{Measured}
 use Rattle.list_measure.specs.Bytes.{itemsBytes, listBytes}
-use Rattle.list_measure.specs.Refusing.{fine, refused, unlessItem, itemsVerdict, listVerdict}
+use Rattle.list_measure.specs.Refusing.{Verdict, fine, refused, unlessItem, itemsVerdict, listVerdict}
 use Rattle.list_measure.specs.Answers.{measured, measuredOf, measureOf}
-use Rattle.list_measure.proofs.Heads.{head-fine, head-refused}
+use Rattle.list_measure.proofs.Heads.{head-fine, head-refused, cond-fine}
 use Rattle.list_measure.proofs.Rest.{restBytes, bytes-row, bytes-item, bytes-end, bytes-start, restVerdict, told-row, told-item, told-end, told-start}
 
 -- A number up to the largest tail has at most ten bytes.
 pub number-short : (n : ℕ) → n ≤ 4294967295 → length (shortest n) ≤ 10
 number-short n h = shortest-spells n (omega arith) .few
+
+-- ---- what a measure tells
+
+-- Its length: four bytes more than the list, which is not refused.
+pub record Sized (v : Verdict) (n : ℕ) (m : Measured) : Type 0 where
+  pub told : v ≡ fine (m .total)
+  pub number : m .number ≡ 0
+  pub long : m .length ≡ n + 4
+  pub small : m .length ≤ 4294967295
+
+-- Or why there is none: the list is refused, or it is a 22.
+pub data Measures (v : Verdict) (n : ℕ) (m : Measured) : Type 0 where
+  sized : Sized v n m → Measures v n m
+  refuses : (v ≡ refused (m .number) (m .item)) ⊎ (m .number ≡ 22) → m .length ≡ 0 → Measures v n m
+
+pub measures : (v : Verdict) (n : ℕ) {m : Measured} → m ≡ measuredOf v n → Measures v n m
+unfolding measuredOf
+measures (refused a b) n e = rw e (refuses (inl refl) refl)
+measures (fine t) n e = rw e (go (ltb 4294967295 (n + 4)) refl)
+  where
+    go : (b : Bool) → ltb 4294967295 (n + 4) ≡ b → Measures (fine t) n (cond b (measured 22 0 0 0) (measured 0 0 (n + 4) t))
+    go true h = refuses (inr refl) refl
+    go false h = sized (record { told = refl; number = refl; long = refl; small = ltb-false _ _ h })
+
+pub sized-where : (v : Verdict) (n : ℕ) {m : Measured} → m ≡ measuredOf v n → (m .length ≡ 0 → ⊥) → Sized v n m
+sized-where v n {m} e h = go (measures v n e)
+  where
+    go : Measures v n m → Sized v n m
+    go (sized f) = f
+    go (refuses p z) = absurd (h z)
+
+-- A list that is not refused has few enough items, and none of them is refused.
+pub list-fine : (s : List ℕ) (checked : Bool) (xs : List LogItem) (ns : List ℕ) {t : ℕ} → listVerdict s checked xs ns ≡ fine t
+    → (length xs ≤ 256) × (itemsVerdict s checked xs ns 0 0 0 ≡ fine t)
+unfolding listVerdict
+list-fine s checked xs ns {t} h =
+    let k = cond-fine (ltb 256 (length xs)) 9 0 (itemsVerdict s checked xs ns 0 0 0) t h in
+    (ltb-false 256 (length xs) (k .0), k .1)
 
 -- ---- the ways out
 

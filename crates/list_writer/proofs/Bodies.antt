@@ -5,11 +5,11 @@ use mathlib.Core.Path.{_≡_, refl, sym, ap, _∙_}
 use mathlib.Core.Bool.{Bool, true, false, cond}
 use mathlib.Core.List.{List, _++_, append-assoc}
 use native.Mathlib.Omega.{arith}
-use lib.Dec.{ltb, leb, eqb}
+use lib.Dec.{leb, eqb}
 use lib.Bits.{bitXor}
 use lib.ListN.{length, take, drop, length-append}
 use lib.Seq.{sets-eq, drop-at, take-append-seam, length-take-le}
-use borrow.Author.Tests.{eq-eqb, ne-eqb, le-leb, lt-leb, leb-true, ltb-false}
+use borrow.Author.Tests.{eq-eqb, ne-eqb, le-leb, lt-leb, leb-true}
 use Rattle.numbers.specs.Shortest.{shortest}
 use Rattle.words.specs.Word.{littleEndianBytes}
 use Rattle.words.specs.Write.{nextAt, placed}
@@ -22,12 +22,12 @@ use Rattle.list_measure.specs.declared.Measured.{Measured}
 use Rattle.list_writer.specs.declared.Encoded.{Encoded}
 use Rattle.list_measure.specs.Bytes.{itemsBytes, listBytes}
 use Rattle.list_writer.specs.Bytes.{footed, bodyBytes}
-use Rattle.list_measure.specs.Refusing.{Verdict, fine, refused, itemsVerdict, listVerdict}
-use Rattle.list_measure.specs.Answers.{measured, measuredOf, measureOf}
+use Rattle.list_measure.specs.Refusing.{fine, itemsVerdict, listVerdict}
+use Rattle.list_measure.specs.Answers.{measureOf}
 use Rattle.list_writer.specs.Answers.{encoded, encodedIn, encodedOf, laid, MeasuredWritten}
 use Rattle.list_writer.specs.Pieces.{footerOf, footerNext, footerPlaced}
 use Rattle.list_writer.proofs.Pieces.{footer-stored}
-use Rattle.list_measure.proofs.Heads.{cond-fine}
+use Rattle.list_measure.proofs.Measuring.{sized-where, list-fine}
 use Rattle.list_writer.proofs.Writing.{Writing, writing-start, writing-end}
 
 -- ---- what a length that is not 0 tells
@@ -40,26 +40,16 @@ pub record Accepted (s : List ℕ) (checked : Bool) (xs : List LogItem) (ns : Li
 
 pub accepted : (s : List ℕ) (checked : Bool) (xs : List LogItem) (ns : List ℕ) (m : Measured) → m ≡ measureOf s checked xs ns → (m .length ≡ 0 → ⊥)
     → Accepted s checked xs ns (m .length)
-unfolding measureOf listVerdict measuredOf listBytes
-accepted s checked xs ns m e h = go (listVerdict s checked xs ns) refl e
-  where
-    n : ℕ
-    n = length (listBytes s xs ns)
-
-    at-fine : (t : ℕ) (b : Bool) → m ≡ cond b (measured 22 0 0 0) (measured 0 0 (n + 4) t) → m .length ≡ n + 4
-    at-fine t true q = absurd (h (ap (λ (x : Measured). x .length) q))
-    at-fine t false q = ap (λ (x : Measured). x .length) q
-
-    go : (v : Verdict) → listVerdict s checked xs ns ≡ v → m ≡ measuredOf v n → Accepted s checked xs ns (m .length)
-    go (refused a b) q u = absurd (h (ap (λ (x : Measured). x .length) u))
-    go (fine t) q u =
-        let k = cond-fine (ltb 256 (length xs)) 9 0 (itemsVerdict s checked xs ns 0 0 0) t q in
-        record {
-          total = t;
-          few = ltb-false 256 (length xs) (k .0);
-          told = k .1;
-          whole = omega (arith, at-fine t (ltb 4294967295 (n + 4)) u, length-append (shortest (length xs)) (itemsBytes s xs ns 0));
-        }
+unfolding measureOf listBytes
+accepted s checked xs ns m e h =
+    let k = sized-where (listVerdict s checked xs ns) (length (listBytes s xs ns)) e h in
+    let l = list-fine s checked xs ns (k .told) in
+    record {
+      total = m .total;
+      few = l .0;
+      told = l .1;
+      whole = omega (arith, k .long, length-append (shortest (length xs)) (itemsBytes s xs ns 0));
+    }
 
 -- ---- the footer
 

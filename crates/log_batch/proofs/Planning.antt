@@ -17,8 +17,9 @@ use Rattle.log_item.specs.declared.LogItem.{LogItem}
 use Rattle.list_measure.specs.declared.Measured.{Measured}
 use Rattle.list_writer.specs.declared.Encoded.{Encoded}
 use Rattle.list_measure.specs.Bytes.{listBytes}
-use Rattle.list_measure.specs.Refusing.{Verdict, fine, refused, listVerdict}
-use Rattle.list_measure.specs.Answers.{measured, measuredOf, measureOf}
+use Rattle.list_measure.specs.Refusing.{fine, listVerdict}
+use Rattle.list_measure.specs.Answers.{measureOf}
+use Rattle.list_measure.proofs.Measuring.{Measures, sized, refuses, measures, sized-where}
 use Rattle.list_writer.specs.Bytes.{footed}
 use Rattle.list_writer.specs.Answers.{encoded}
 use Rattle.log_batch.specs.Front.{blockBytes, bodyOffset, headerBytes, frontBytes, batchEncoded}
@@ -60,37 +61,18 @@ front-length len content =
 
 -- A body that is not refused is short enough for the sums behind it.
 pub body-small : (s : List ℕ) (checked : Bool) (xs : List LogItem) (ns : List ℕ) {m : Measured} → m ≡ measureOf s checked xs ns → m .length ≤ 4294967295
-unfolding measureOf measuredOf
-body-small s checked xs ns {m} e = go (listVerdict s checked xs ns) e
+unfolding measureOf
+body-small s checked xs ns {m} e = go (measures (listVerdict s checked xs ns) (length (listBytes s xs ns)) e)
   where
-    n : ℕ
-    n = length (listBytes s xs ns)
-
-    at-fine : (t : ℕ) (b : Bool) → ltb 4294967295 (n + 4) ≡ b → m ≡ cond b (measured 22 0 0 0) (measured 0 0 (n + 4) t) → m .length ≤ 4294967295
-    at-fine t true h q = omega (arith, ap (λ (x : Measured). x .length) q)
-    at-fine t false h q = omega (arith, ap (λ (x : Measured). x .length) q, ltb-false 4294967295 (n + 4) h)
-
-    go : (v : Verdict) → m ≡ measuredOf v n → m .length ≤ 4294967295
-    go (refused a b) q = omega (arith, ap (λ (x : Measured). x .length) q)
-    go (fine t) q = at-fine t (ltb 4294967295 (n + 4)) refl q
+    go : Measures (listVerdict s checked xs ns) (length (listBytes s xs ns)) m → m .length ≤ 4294967295
+    go (sized f) = f .small
+    go (refuses p z) = omega arith
 
 -- The verdict on a list whose measure has a length.
 pub verdict-of : (s : List ℕ) (checked : Bool) (xs : List LogItem) (ns : List ℕ) → (measureOf s checked xs ns .length ≡ 0 → ⊥)
     → listVerdict s checked xs ns ≡ fine (measureOf s checked xs ns .total)
-unfolding measureOf measuredOf
-verdict-of s checked xs ns h = go (listVerdict s checked xs ns) h
-  where
-    n : ℕ
-    n = length (listBytes s xs ns)
-
-    at-fine : (t : ℕ) (b : Bool) → (cond b (measured 22 0 0 0) (measured 0 0 (n + 4) t) .length ≡ 0 → ⊥)
-        → t ≡ cond b (measured 22 0 0 0) (measured 0 0 (n + 4) t) .total
-    at-fine t true k = absurd (k refl)
-    at-fine t false k = refl
-
-    go : (v : Verdict) → (measuredOf v n .length ≡ 0 → ⊥) → v ≡ fine (measuredOf v n .total)
-    go (refused a b) k = absurd (k refl)
-    go (fine t) k = ap fine (at-fine t (ltb 4294967295 (n + 4)) k)
+unfolding measureOf
+verdict-of s checked xs ns h = sized-where (listVerdict s checked xs ns) (length (listBytes s xs ns)) refl h .told
 
 -- ---- the answer
 

@@ -8,10 +8,10 @@ use mathlib.Core.List.{List, [], _∷_, _++_, append-nil}
 use native.Mathlib.Omega.{arith}
 use native.Mathlib.Nat.{zero-add}
 use lib.Bits.{bitXor, xor-lt}
-use lib.Dec.{ltb, lit<}
+use lib.Dec.{lit<}
 use lib.ListN.{length, take, drop, length-append}
 use lib.Seq.{take-at}
-use borrow.Author.Tests.{ltb-false, le-ltb, lt-leb, ne-eqb}
+use borrow.Author.Tests.{le-ltb, lt-leb, ne-eqb}
 use Rattle.numbers.specs.Shortest.{shortest}
 use Rattle.words.specs.Word.{littleEndian, littleEndianBytes}
 use Rattle.words.proofs.Words.{length-little, little-endian-back}
@@ -47,7 +47,7 @@ use Rattle.log_item.specs.Blank.{blankItem}
 use Rattle.list_measure.specs.Bytes.{itemsOf, itemsBytes, listBytes}
 use Rattle.list_writer.specs.Bytes.{footed, bodyBytes}
 use Rattle.list_measure.specs.Refusing.{fine, itemsVerdict, listVerdict}
-use Rattle.list_measure.proofs.Heads.{cond-fine}
+use Rattle.list_measure.proofs.Measuring.{list-fine}
 use Rattle.log_batch.proofs.ListWritten.{items-fine, encodes}
 use Rattle.log_batch.specs.declared.LogItemBatch.{LogItemBatch}
 use Rattle.log_batch.specs.Reading.{accepted, rejected}
@@ -175,8 +175,7 @@ clash e = let z : _≡_ {A = ℕ} 0 1 = cc in omega arith
 
 module _ (s : List ℕ) (checked : Bool) (xs : List LogItem) (ns : List ℕ) (total : ℕ) (z : AllSmall xs) (h : listVerdict s checked xs ns ≡ fine total) where
   told : (length xs ≤ 256) × (itemsVerdict s checked xs ns 0 0 0 ≡ fine total)
-  unfolding listVerdict
-  told = let c = cond-fine (ltb 256 (length xs)) 9 0 (itemsVerdict s checked xs ns 0 0 0) total h in (ltb-false 256 (length xs) (c .0), c .1)
+  told = list-fine s checked xs ns h
 
   -- What is written is spelled, with shortest numbers, by the list with its places worked out, and that list is within the limits.
   pub written-spelled : Spells (NumberIn Plain) (bodyItems s xs ns) (bodyRows xs ns) total (listBytes s xs ns) × Within (bodyItems s xs ns) (bodyRows xs ns)

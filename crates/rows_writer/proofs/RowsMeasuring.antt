@@ -15,9 +15,10 @@ use Rattle.list_measure.specs.declared.Measured.{Measured}
 use Rattle.list_measure.specs.Bytes.{listBytes}
 use Rattle.list_measure.specs.Refusing.{Verdict, fine, refused, itemsVerdict, listVerdict}
 use Rattle.list_measure.specs.Answers.{measured, measuredOf, measureOf}
-use Rattle.rows_writer.specs.Rows.{rowItems, entryLengths, rowNumber, thenRow, rowsVerdict, measureRows}
+use Rattle.rows_writer.specs.Rows.{rowItems, entryLengths, thenRow, rowsVerdict, measureRows}
 use Rattle.rows_writer.proofs.RowItems.{items-few, row-ends}
-use Rattle.list_measure.proofs.Measuring.{Measuring, told-all, measuring-end}
+use Rattle.list_measure.proofs.Heads.{cond-fine}
+use Rattle.list_measure.proofs.Measuring.{Measuring, sized-where, told-all, measuring-end}
 
 module _ (s : List ℕ) (checked : Bool) (items entries : List ℕ) where
   pub rows-many : 256 < itemRowCount items → measured 9 0 0 0 ≡ measureRows s checked items entries
@@ -52,28 +53,20 @@ module _ (s : List ℕ) (checked : Bool) (items entries : List ℕ) where
   -- A length that is not 0 tells that each row is an item.
   pub rows-accepted : {m : Measured} → m ≡ measureRows s checked items entries → (m .length ≡ 0 → ⊥)
       → (length (rowItems items) ≡ itemRowCount items) × (m ≡ measureOf s checked (rowItems items) (entryLengths entries))
-  unfolding measureRows rowsVerdict measuredOf
-  rows-accepted {m} e h = let p = first (ltb 256 (itemRowCount items)) refl e in (p .1, e ∙ sym (rows-all (p .0) (p .1)))
+  unfolding measureRows rowsVerdict
+  rows-accepted {m} e h =
+      let v = sized-where _ (length (listBytes s (rowItems items) (entryLengths entries))) e h .told in
+      let k = cond-fine (ltb 256 (itemRowCount items)) 9 0 (thenRow items (length (rowItems items)) (itemsVerdict s checked (rowItems items) (entryLengths entries) 0 0 0)) _ v in
+      let same = go (itemsVerdict s checked (rowItems items) (entryLengths entries) 0 0 0) (k .1) in
+      (same, e ∙ sym (rows-all (ltb-false 256 (itemRowCount items) (k .0)) same))
     where
-      k : ℕ
-      k = length (rowItems items)
+      each : (b : Bool) (t n i : ℕ) {u : ℕ} → cond b (fine t) (refused n i) ≡ fine u → b ≡ true
+      each true t n i q = refl
+      each false t n i q = absurd (let z : _≡_ {A = ℕ} 0 1 = cc in omega arith)
 
-      n : ℕ
-      n = length (listBytes s (rowItems items) (entryLengths entries))
-
-      third : (t : ℕ) (b : Bool) → eqb k (itemRowCount items) ≡ b → m ≡ measuredOf (cond b (fine t) (refused (rowNumber (itemOfRow items k)) k)) n → k ≡ itemRowCount items
-      third t true g q = eqb-true k (itemRowCount items) g
-      third t false g q = absurd (h (ap (λ (x : Measured). x .length) q))
-
-      second : (v : Verdict) → m ≡ measuredOf (thenRow items k v) n → k ≡ itemRowCount items
-      second (fine t) q = third t (eqb k (itemRowCount items)) refl q
-      second (refused a b) q = absurd (h (ap (λ (x : Measured). x .length) q))
-
-      first : (b : Bool) → ltb 256 (itemRowCount items) ≡ b
-          → m ≡ measuredOf (cond b (refused 9 0) (thenRow items k (itemsVerdict s checked (rowItems items) (entryLengths entries) 0 0 0))) n
-          → (itemRowCount items ≤ 256) × (k ≡ itemRowCount items)
-      first true g q = absurd (h (ap (λ (x : Measured). x .length) q))
-      first false g q = (ltb-false 256 (itemRowCount items) g, second (itemsVerdict s checked (rowItems items) (entryLengths entries) 0 0 0) q)
+      go : {u : ℕ} (v : Verdict) → thenRow items (length (rowItems items)) v ≡ fine u → length (rowItems items) ≡ itemRowCount items
+      go (fine t) q = eqb-true _ _ (each (eqb (length (rowItems items)) (itemRowCount items)) t _ _ q)
+      go (refused a b) q = absurd (let z : _≡_ {A = ℕ} 0 1 = cc in omega arith)
 
   -- ---- the loop
 
