@@ -23,7 +23,7 @@ use Rattle.item_reader.specs.declared.RowRead.the-variants as row
 use Rattle.item_reader.specs.declared.Step.{Step}
 use Rattle.item_reader.specs.Rows.{nextRow}
 use Rattle.item_reader.specs.Steps.{rowsStanding, foundAt, stayed}
-use Rattle.item_reader.specs.Reader.{stepFrom, moved, after, afterCalls, nthOf}
+use Rattle.item_reader.specs.Reader.{stepFrom, moved, afterCall, afterCalls, nthOf}
 use Rattle.item_reader.specs.Stepping.{GoesThrough, StepsThrough}
 use Rattle.item_reader.specs.Stepping as go
 use Rattle.item_reader.proofs.ItemLaws.{by-tails, step-refused, step-end, step-over}
@@ -65,13 +65,13 @@ module _ (s : List ℕ) where
 
 -- ---- one call after the other
 
-shifted : (r : ItemReader) (k : ℕ) → afterCalls r (suc k) ≡ afterCalls (after r) k
+shifted : (r : ItemReader) (k : ℕ) → afterCalls r (suc k) ≡ afterCalls (afterCall r) k
 unfolding afterCalls
 shifted r zero = refl
-shifted r (suc k) = ap after (shifted r k)
+shifted r (suc k) = ap afterCall (shifted r k)
 
 -- Call number k + 1 answers what call number k answers one step further on.
-pub afterwards : (r : ItemReader) (k : ℕ) → nthOf r (suc k) ≡ nthOf (after r) k
+pub afterwards : (r : ItemReader) (k : ℕ) → nthOf r (suc k) ≡ nthOf (afterCall r) k
 afterwards r k = ap (λ (x : ItemReader). stepFrom x .answer) (shifted r k)
 
 -- ---- a reader that goes no further
@@ -80,18 +80,18 @@ module _ (r : ItemReader) {a : Next} (stuck : stepFrom r ≡ stayed (r .at) (r .
   stays : (k : ℕ) → afterCalls r k ≡ r
   unfolding afterCalls
   stays zero = refl
-  stays (suc k) = ap after (stays k) ∙ ap (moved r) stuck
+  stays (suc k) = ap afterCall (stays k) ∙ ap (moved r) stuck
 
   -- It answers the same at every call.
-  pub same-answer : (k : ℕ) → nthOf r k ≡ a
-  same-answer k = ap (λ (x : ItemReader). stepFrom x .answer) (stays k) ∙ ap (λ (s : Step). s .answer) stuck
+  pub stuck-answer : (k : ℕ) → nthOf r k ≡ a
+  stuck-answer k = ap (λ (x : ItemReader). stepFrom x .answer) (stays k) ∙ ap (λ (s : Step). s .answer) stuck
 
 module _ (r : ItemReader) where
   pub at-end : r .refusal .number ≡ 0 → r .count ≤ r .item → (k : ℕ) → nthOf r k ≡ next.End
-  at-end none h = same-answer r (sym (step-end (now (r .body)) (r .at) (r .total) (r .used) (r .item) (r .count) (r .refusal) none h refl))
+  at-end none h = stuck-answer r (sym (step-end (now (r .body)) (r .at) (r .total) (r .used) (r .item) (r .count) (r .refusal) none h refl))
 
   pub at-refusal : (r .refusal .number ≡ 0 → ⊥) → (k : ℕ) → nthOf r k ≡ next.Refused (r .refusal)
-  at-refusal some = same-answer r (sym (step-refused (now (r .body)) (r .at) (r .total) (r .used) (r .item) (r .count) (r .refusal) some refl))
+  at-refusal some = stuck-answer r (sym (step-refused (now (r .body)) (r .at) (r .total) (r .used) (r .item) (r .count) (r .refusal) some refl))
 
 -- ---- items
 
@@ -118,8 +118,8 @@ module _ (r : ItemReader) (none : r .refusal .number ≡ 0) (more : r .item < r 
       found = rw (by-tails s (r .used) (r .total) (r .at) h refl, e)
 
   -- It hands out the item, whose rows are those of its tails, and then what the reader hands out after it.
-  pub one-item : {xs : List LogItem} {all : List EntryIndex} → StepsThrough (beyond r z (o .1) (r .used + length (o .0))) xs all → StepsThrough r (x ∷ xs) (o .0 ++ all)
-  one-item {xs} {all} rest =
+  pub steps-item : {xs : List LogItem} {all : List EntryIndex} → StepsThrough (beyond r z (o .1) (r .used + length (o .0))) xs all → StepsThrough r (x ∷ xs) (o .0 ++ all)
+  steps-item {xs} {all} rest =
       go.StepsThrough.then {r = r} {x = x} {p = rows} {xs = xs} {rows = o .0} {more = all} (ap (λ (a : Step). a .answer) steps-over)
       (goes-through s _ _ _ _ _ (λ _. refl) (head-known Any s (r .used) (r .at) h .last) e)
       (rw (ap (moved r) steps-over) rest)
@@ -154,7 +154,7 @@ steps-through (suc k) r none count {xs} {all} {u} {q} e = by-head (λ z v used y
     by-rest ih {x} {o = o} {z = z} f g (accepted ys rows w y) h c =
         let first : xs ≡ x ∷ ys = cc in
         let both : all ≡ o .0 ++ rows = cc in
-        rw (first, both) (one-item r none more f g (ih z (o .1) (r .used + length (o .0)) ys rows w y h))
+        rw (first, both) (steps-item r none more f g (ih z (o .1) (r .used + length (o .0)) ys rows w y h))
     by-rest ih f g (rejected n i) h c = let o : _≡_ {A = ℕ} 0 1 = cc in absurd (omega arith)
 
     by-rows : Ih → {x : LogItem} {p : ℕ} → head Any s (r .used) (r .at) ≡ got x p → (g : Got (List EntryIndex × ℕ))

@@ -23,7 +23,7 @@ use Rattle.list_measure.specs.declared.Measured.{Measured}
 use Rattle.list_measure.specs.Bytes.{itemsBytes, listBytes}
 use Rattle.list_measure.specs.Refusing.{Verdict, fine, refused, unlessItem, itemsVerdict, listVerdict}
 use Rattle.list_measure.specs.Answers.{measured, measuredOf, measureOf}
-use Rattle.list_measure.proofs.Heads.{head-fine, head-refused, cond-fine}
+use Rattle.list_measure.proofs.Heads.{head-fine, unless-refused, cond-fine}
 use Rattle.list_measure.proofs.Rest.{restBytes, bytes-row, bytes-item, bytes-end, bytes-start, restVerdict, told-row, told-item, told-end, told-start}
 
 -- A number up to the largest tail has at most ten bytes.
@@ -91,13 +91,13 @@ measured-capped t size n e = go (ltb 4294967291 size) refl
         ap (λ (k : ℕ). measuredOf (fine t) k) q
 
 module _ (s : List ℕ) (checked : Bool) (xs : List LogItem) (ns : List ℕ) where
-  pub too-many : 256 < length xs → measured 9 0 0 0 ≡ measureOf s checked xs ns
+  pub measured-9 : 256 < length xs → measured 9 0 0 0 ≡ measureOf s checked xs ns
   unfolding measureOf listVerdict measuredOf
-  too-many h = rw (lt-ltb 256 (length xs) h)
+  measured-9 h = rw (lt-ltb 256 (length xs) h)
 
-  pub measure-refused : (n k : ℕ) → length xs ≤ 256 → itemsVerdict s checked xs ns 0 0 0 ≡ refused n k → measured n k 0 0 ≡ measureOf s checked xs ns
+  pub list-refused : (n k : ℕ) → length xs ≤ 256 → itemsVerdict s checked xs ns 0 0 0 ≡ refused n k → measured n k 0 0 ≡ measureOf s checked xs ns
   unfolding measureOf listVerdict measuredOf
-  measure-refused n k h e = rw (le-ltb 256 (length xs) h, e)
+  list-refused n k h e = rw (le-ltb 256 (length xs) h, e)
 
 -- ---- the loop
 
@@ -145,8 +145,8 @@ module _ (s : List ℕ) (checked : Bool) (xs : List LogItem) (ns : List ℕ) whe
           told = sym (rw (le-ltb 4294967295 (t + r) l) at v) ∙ m .told;
         }
 
-    pub row-refused : (r : ℕ) → 0 < tails → getD ns j 0 ≡ r → 4294967295 < t + r → itemsVerdict s checked xs ns 0 0 0 ≡ refused 16 (i - 1)
-    row-refused r h e l =
+    pub measuring-row-refused : (r : ℕ) → 0 < tails → getD ns j 0 ≡ r → 4294967295 < t + r → itemsVerdict s checked xs ns 0 0 0 ≡ refused 16 (i - 1)
+    measuring-row-refused r h e l =
         let v = rw e at (told-row s xs ns checked i j tails t h (m .room)) in
         sym (m .told) ∙ (rw (lt-ltb 4294967295 (t + r) l) at v)
 
@@ -182,9 +182,9 @@ module _ (s : List ℕ) (checked : Bool) (xs : List LogItem) (ns : List ℕ) whe
           told = sym (ap (λ (r : ℕ). unlessItem r i (restVerdict s xs ns checked (i + 1) j n t)) (k .0)) ∙ told-now x z h e;
         })
 
-    pub item-refused : (x : LogItem) (n : ℕ) {rows : ℕ} → length ns ≡ rows → tails ≤ 0 → i < length xs → getD xs i blankItem ≡ x
+    pub measuring-item-refused : (x : LogItem) (n : ℕ) {rows : ℕ} → length ns ≡ rows → tails ≤ 0 → i < length xs → getD xs i blankItem ≡ x
         → measureItem s checked j rows x ≡ Refused n → itemsVerdict s checked xs ns 0 0 0 ≡ refused n i
-    item-refused x n all z h e f = sym (told-now x z h e) ∙ head-refused s checked j (length ns) x n i _ (rw all f)
+    measuring-item-refused x n all z h e f = sym (told-now x z h e) ∙ unless-refused s checked j (length ns) x n i _ (rw all f)
 
     -- the end
     pub told-all : tails ≤ 0 → length xs ≤ i → itemsVerdict s checked xs ns 0 0 0 ≡ fine t

@@ -127,9 +127,9 @@ module _ (m : Measured) (all at : ℕ) where
     placing-fits l = rw (ne-eqb (m .length) 0 h, le-leb (at + m .length) all l)
 
 -- A length that is not 0 is the measure's, and the body fits.
-pub fits : {told m : Measured} → m ≡ told → (all at : ℕ) {r : Encoded} → r ≡ encodedIn m all at → (r .length ≡ 0 → ⊥)
+pub placing-told : {told m : Measured} → m ≡ told → (all at : ℕ) {r : Encoded} → r ≡ encodedIn m all at → (r .length ≡ 0 → ⊥)
     → (m .length ≡ 0 → ⊥) × (at + m .length ≤ all) × (r .length ≡ m .length)
-fits {told} {m} same all at {r} e h = go (eqb (m .length) 0) refl e
+placing-told {told} {m} same all at {r} e h = go (eqb (m .length) 0) refl e
   where
     last : (b : Bool) → leb (at + m .length) all ≡ b → r ≡ cond b (encoded 0 0 (m .length)) (encoded 21 0 0) → (at + m .length ≤ all) × (r .length ≡ m .length)
     last true g q = (leb-true _ _ g, ap (λ (x : Encoded). x .length) q)
@@ -147,15 +147,15 @@ module _ (e : Measured) (out : List ℕ) (at : ℕ) (bs : List ℕ) {m : Measure
   unfolding encodedOf
   answered = p ∙ ap (λ (x : Measured). encodedIn x (length out) at) same
 
-  pub none-written : r .length ≡ 0 → MeasuredWritten e bs out at r out
+  pub refused-laid : r .length ≡ 0 → MeasuredWritten e bs out at r out
   unfolding laid
-  none-written h = record { answer = answered; written = rw (eq-eqb (r .length) 0 h) }
+  refused-laid h = record { answer = answered; written = rw (eq-eqb (r .length) 0 h) }
 
-  pub all-written : {later : List ℕ} {next : ℕ} → (r .length ≡ 0 → ⊥) → length bs ≡ m .length → Stored out at bs next later
+  pub all-laid : {later : List ℕ} {next : ℕ} → (r .length ≡ 0 → ⊥) → length bs ≡ m .length → Stored out at bs next later
       → MeasuredWritten e bs out at r later
   unfolding laid
-  all-written {later} {next} h k w =
-      let fit : at + length bs ≤ length out = omega (arith, fits same (length out) at p h .1) in
+  all-laid {later} {next} h k w =
+      let fit : at + length bs ≤ length out = omega (arith, placing-told same (length out) at p h .1) in
       record {
         answer = answered;
         written = w .stored ∙ sets-eq bs out at fit ∙ (rw (ne-eqb (r .length) 0 h, le-leb (at + length bs) (length out) fit));

@@ -41,7 +41,7 @@ module _ {P Q : List LogItem → List EntryIndex → ℕ → ℕ → Type 0} whe
   weaken rejects k = rejects
 
   -- One more item in front.
-  pub one-more : (x : LogItem) (rows : List EntryIndex) {a : Answer} → Accepts P a
+  pub accepts-more : (x : LogItem) (rows : List EntryIndex) {a : Answer} → Accepts P a
       → ((xs : List LogItem) (more : List EntryIndex) (u q : ℕ) → P xs more u q → Q (x ∷ xs) (rows ++ more) u q) → Accepts Q (before x rows a)
-  one-more x rows (accepts h) k = accepts (k _ _ _ _ h)
-  one-more x rows rejects k = rejects
+  accepts-more x rows (accepts h) k = accepts (k _ _ _ _ h)
+  accepts-more x rows rejects k = rejects

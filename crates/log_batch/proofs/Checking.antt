@@ -103,8 +103,8 @@ module _ (form : Form) (s : List ℕ) where
       rest : count - i ≡ suc (count - (i + 1))
       rest = omega arith
 
-      pub left-more : {u m q : ℕ} → passed.Done q u m ≡ itemPassed (passItem form s used total at) → ItemsLeft count start (i + 1) q u m
-      left-more h = record { few = omega arith; comes = sym (one-more (count - (i + 1)) i used total at h) ∙ rw (← rest) (l .comes) }
+      pub left-next : {u m q : ℕ} → passed.Done q u m ≡ itemPassed (passItem form s used total at) → ItemsLeft count start (i + 1) q u m
+      left-next h = record { few = omega arith; comes = sym (one-more (count - (i + 1)) i used total at h) ∙ rw (← rest) (l .comes) }
 
       pub left-refused : {r : ℕ} → passed.Refused r ≡ itemPassed (passItem form s used total at) → Refused (record { number = r; item = i }) ≡ checkOf (items form s count 0 0 0 start)
       left-refused h = sym (stop (count - (i + 1)) i used total at h) ∙ rw (← rest) (l .comes)
@@ -123,13 +123,13 @@ module _ (form : Form) (s : List ℕ) where
 
 -- ---- what a check tells of the reading
 
-pub told : {m n u q : ℕ} (a : Answer) → Accepted m n u q ≡ checkOf a
+pub acceptance-told : {m n u q : ℕ} (a : Answer) → Accepted m n u q ≡ checkOf a
     → (xs : List LogItem) × (rows : List EntryIndex) × (a ≡ accepted xs rows u q) × (length xs ≡ m) × (length rows ≡ n)
-told {u = u} {q = q} (accepted xs rows v z) e =
+acceptance-told {u = u} {q = q} (accepted xs rows v z) e =
     let total : v ≡ u = cc in
     let place : z ≡ q = cc in
     (xs, rows, rw (total, place), cc, cc)
-told (rejected r i) e = let z : _≡_ {A = ℕ} 0 1 = cc in absurd (omega arith)
+acceptance-told (rejected r i) e = let z : _≡_ {A = ℕ} 0 1 = cc in absurd (omega arith)
 
 pub refusal-told : {x : Refusal} (a : Answer) → Refused x ≡ checkOf a → a ≡ rejected (x .number) (x .item)
 refusal-told (accepted xs rows u q) e = let z : _≡_ {A = ℕ} 0 1 = cc in absurd (omega arith)
@@ -145,11 +145,11 @@ module _ (body : List ℕ) (signature : ℕ) where
   module _ {m n u q : ℕ} (e : Accepted m n u q ≡ checkOf (readBody body signature)) where
     pub plain-yes : {k l v z : ℕ} → Accepted k l v z ≡ checkOf (readItems Plain (sealedPart body)) → plain.Yes ≡ plainBody body signature
     unfolding plainBody
-    plain-yes f = rw (told (readBody body signature) e .2, told (readItems Plain (sealedPart body)) f .2)
+    plain-yes f = rw (acceptance-told (readBody body signature) e .2, acceptance-told (readItems Plain (sealedPart body)) f .2)
 
     pub plain-no : {r : Refusal} → Refused r ≡ checkOf (readItems Plain (sealedPart body)) → plain.No ≡ plainBody body signature
     unfolding plainBody
-    plain-no f = rw (told (readBody body signature) e .2, refusal-told (readItems Plain (sealedPart body)) f)
+    plain-no f = rw (acceptance-told (readBody body signature) e .2, refusal-told (readItems Plain (sealedPart body)) f)
 
     -- an accepted body has its footer
     pub accepted-long : 4 < length body

@@ -105,8 +105,8 @@ module _ {s : List ℕ} {k : ℕ} {xs : List LogItem} {rows : List EntryIndex} {
         }
 
     -- A tail was refused: in the item before.
-    pub row-refused : {r : ℕ} → tail Any s t p ≡ refused r → readItems Any s ≡ rejected r (i - 1)
-    row-refused {r} e = sym (f .so-far) ∙ ap (prepend (take i xs) (take j rows)) (one-tail ∙ bad-suc s k i j p t (n - 1) index r e)
+    pub filling-row-refused : {r : ℕ} → tail Any s t p ≡ refused r → readItems Any s ≡ rejected r (i - 1)
+    filling-row-refused {r} e = sym (f .so-far) ∙ ap (prepend (take i xs) (take j rows)) (one-tail ∙ bad-suc s k i j p t (n - 1) index r e)
 
   module _ (done : n ≤ 0) where
     no-tail : rest s k i j p t n index ≡ items Any s (k - i) i j t p
@@ -162,5 +162,5 @@ module _ {s : List ℕ} {k : ℕ} {xs : List LogItem} {rows : List EntryIndex} {
           }
 
       -- A head was refused.
-      pub item-refused : {r : ℕ} → head Any s j p ≡ refused r → readItems Any s ≡ rejected r i
-      item-refused e = sym (f .so-far) ∙ ap (prepend (take i xs) (take j rows)) (one-item ∙ no-item s k i j p t (k - (i + 1)) e)
+      pub filling-item-refused : {r : ℕ} → head Any s j p ≡ refused r → readItems Any s ≡ rejected r i
+      filling-item-refused e = sym (f .so-far) ∙ ap (prepend (take i xs) (take j rows)) (one-item ∙ no-item s k i j p t (k - (i + 1)) e)

@@ -81,9 +81,9 @@ something items content (inl h) = rw (ne-eqb items 0 h)
 something items content (inr h) = rw (ne-eqb content 0 h) (and-false (eqb items 0))
 
 module _ (m : Measured) (items : ℕ) (content : List ℕ) (room : ℕ) {r : Encoded} where
-  pub nothing : items ≡ 0 → length content ≡ 0 → r ≡ encoded 0 0 0 → r ≡ batchEncoded m items content room
+  pub nothing-written : items ≡ 0 → length content ≡ 0 → r ≡ encoded 0 0 0 → r ≡ batchEncoded m items content room
   unfolding batchEncoded
-  nothing a b e = rw (eq-eqb _ _ a, eq-eqb _ _ b) e
+  nothing-written a b e = rw (eq-eqb _ _ a, eq-eqb _ _ b) e
 
   module _ (some : (items ≡ 0 → ⊥) ⊎ (length content ≡ 0 → ⊥)) where
     pub refused-body : m .length ≡ 0 → r ≡ encoded (m .number) (m .item) 0 → r ≡ batchEncoded m items content room

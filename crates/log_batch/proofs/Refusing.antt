@@ -60,8 +60,8 @@ module _ (body block : Span) (n : ℕ) where
   same xs rows u q true e z = eqb-true u n e
   same xs rows u q false e z = absurd (omega (arith, z))
 
-  pub taken : (a : Answer) → ((r i : ℕ) → a ≡ rejected r i → r ≡ 0 → ⊥) → tableOf body block (agreeing (Exactly n) a) .refusal .number ≡ 0
+  pub total-agrees : (a : Answer) → ((r i : ℕ) → a ≡ rejected r i → r ≡ 0 → ⊥) → tableOf body block (agreeing (Exactly n) a) .refusal .number ≡ 0
       → (xs : List LogItem) × (rows : List EntryIndex) × (q : ℕ) × (a ≡ accepted xs rows n q)
   unfolding tableOf
-  taken (accepted xs rows u q) some z = (xs, rows, q, ap (λ (k : ℕ). accepted xs rows k q) (same xs rows u q (eqb u n) refl z))
-  taken (rejected r i) some z = absurd (some r i refl z)
+  total-agrees (accepted xs rows u q) some z = (xs, rows, q, ap (λ (k : ℕ). accepted xs rows k q) (same xs rows u q (eqb u n) refl z))
+  total-agrees (rejected r i) some z = absurd (some r i refl z)

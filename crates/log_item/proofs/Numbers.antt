@@ -11,7 +11,7 @@ use Rattle.numbers.specs.declared.NumberRead.{NumberRead}
 use Rattle.numbers.specs.declared.NumberRead.the-variants.{Done, Eof, Overflow}
 use Rattle.numbers.specs.Number.{readNumber}
 use Rattle.numbers.specs.Shortest.{shortest}
-use Rattle.numbers.specs.Spelling.{Spells}
+use Rattle.numbers.specs.Spelling.{SpellsNumber}
 use Rattle.numbers.proofs.Spelled.{groups-pos}
 use Rattle.numbers.proofs.Theorems.{read-iff-stands, shortest-spells, none-as-short, spells-fits}
 use Rattle.log_item.specs.declared.Form.{Form}
@@ -38,7 +38,7 @@ pub number-some : (form : Form) (n : ℕ) (x : List ℕ) → NumberIn form n x �
 number-some form n x h = groups-pos (in-any form n x h .groups)
 
 -- A number in any spelling is read.
-complete-any : {s : List ℕ} {n : ℕ} {x : List ℕ} → Spells n x → {p q : ℕ} → At s p q x → readNumber s p ≡ Done n q
+complete-any : {s : List ℕ} {n : ℕ} {x : List ℕ} → SpellsNumber n x → {p q : ℕ} → At s p q x → readNumber s p ≡ Done n q
 complete-any {s} {n} {x} h {p} {q} f = read-iff-stands s p n q .1 (record { bytes = x; rest = drop q s; spells = h; there = f .stand; after = f .ends })
 
 -- A number that is spelled at a place is read there.
@@ -50,10 +50,10 @@ complete-number Plain {n = n} {x = x} h {p} {q} f =
     rw (complete-any (plain-any n x h) f, eq-eqb _ _ e)
 
 -- A number that is read has a spelling there.
-sound-any : (s : List ℕ) (p : ℕ) → Holds (λ n q. Found s (Spells n) p q) (numberGot (readNumber s p))
+sound-any : (s : List ℕ) (p : ℕ) → Holds (λ n q. Found s (SpellsNumber n) p q) (numberGot (readNumber s p))
 sound-any s p = go (readNumber s p) refl
   where
-    go : (r : NumberRead) → readNumber s p ≡ r → Holds (λ n q. Found s (Spells n) p q) (numberGot r)
+    go : (r : NumberRead) → readNumber s p ≡ r → Holds (λ n q. Found s (SpellsNumber n) p q) (numberGot r)
     go (Done n q) e =
         let h = read-iff-stands s p n q .0 e in
         let rest : drop q s ≡ h .rest =

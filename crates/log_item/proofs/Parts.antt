@@ -150,5 +150,5 @@ module _ (form : Form) (s : List ℕ) where
         head-no-content k = rw (e, f, k)
 
 -- What an item's content states, where the content is known.
-pub stated : {c d : LogItemContent} → c ≡ d → entriesOf d ≡ entriesOf c
-stated e = sym (ap entriesOf e)
+pub entries-same : {c d : LogItemContent} → c ≡ d → entriesOf d ≡ entriesOf c
+entries-same e = sym (ap entriesOf e)

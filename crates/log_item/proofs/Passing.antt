@@ -86,13 +86,13 @@ module _ (form : Form) (s : List ℕ) where
   rows-hold zero i t p = holds refl
   rows-hold (suc n) i t p = later (tail form s t p) λ w q. after (rows-hold n (i + 1) w q) λ r z h. holds (ap suc h)
 
-  pub rows-length : (n i t p : ℕ) {r : List EntryIndex × ℕ} {q : ℕ} → tails form s n i t p ≡ got r q → length (r .0) ≡ n
-  rows-length n i t p e = of-got (rows-hold n i t p) e
+  pub as-many-rows : (n i t p : ℕ) {r : List EntryIndex × ℕ} {q : ℕ} → tails form s n i t p ≡ got r q → length (r .0) ≡ n
+  as-many-rows n i t p e = of-got (rows-hold n i t p) e
 
   module _ (used t p : ℕ) where
-    pub item-refused : {r : ℕ} → head form s used p ≡ refused r → refused r ≡ passItem form s used t p
+    pub item-no-head : {r : ℕ} → head form s used p ≡ refused r → refused r ≡ passItem form s used t p
     unfolding passItem oneItem
-    item-refused e = rw e
+    item-no-head e = rw e
 
     module _ {x : LogItem} {q : ℕ} (e : head form s used p ≡ got x q) {d : EntryIndexes} (k : d ≡ entriesOf (x .content)) where
       by-rows : (g : Got (List EntryIndex × ℕ)) → Holds (λ r z. length (r .0) ≡ d .count) g

@@ -97,9 +97,9 @@ module _ (s : List ℕ) (checked : Bool) (key : Span) (op : Op) where
   key-13 h = rw h
 
   module _ (h : opInside s key op ≡ true) where
-    pub key-delete : op ≡ Del → 0 ≡ keyRefusal s checked key op
+    pub delete-fine : op ≡ Del → 0 ≡ keyRefusal s checked key op
     unfolding keyRefusal
-    key-delete e = rw (h, e)
+    delete-fine e = rw (h, e)
 
     pub key-23 : {v : Span} {r : Bool} → op ≡ Put v → r ≡ (checked && begins (bytesOf s key) prefix) → r ≡ true → 23 ≡ keyRefusal s checked key op
     unfolding keyRefusal
@@ -110,17 +110,17 @@ module _ (s : List ℕ) (checked : Bool) (key : Span) (op : Op) where
     key-fine {v} e p q = let z : (checked && begins (bytesOf s key) prefix) ≡ false = sym p ∙ q in rw (h, e, z)
 
 module _ (s : List ℕ) (checked : Bool) (used rows : ℕ) (k : LogItemContent) where
-  pub entries-refused : {e : EntryIndexes} {r : ℕ} → k ≡ contents.EntryIndexes e → r ≡ entriesRefusal used rows e → r ≡ contentRefusal s checked used rows k
+  pub refusal-entries : {e : EntryIndexes} {r : ℕ} → k ≡ contents.EntryIndexes e → r ≡ entriesRefusal used rows e → r ≡ contentRefusal s checked used rows k
   unfolding contentRefusal
-  entries-refused p q = rw p q
+  refusal-entries p q = rw p q
 
-  pub command-refused : {c : Command} → k ≡ contents.Command c → 0 ≡ contentRefusal s checked used rows k
+  pub refusal-command : {c : Command} → k ≡ contents.Command c → 0 ≡ contentRefusal s checked used rows k
   unfolding contentRefusal
-  command-refused p = rw p
+  refusal-command p = rw p
 
-  pub key-refused : {v : KeyValue} {r : ℕ} → k ≡ contents.Kv v → r ≡ keyRefusal s checked (v .key) (v .op) → r ≡ contentRefusal s checked used rows k
+  pub refusal-key : {v : KeyValue} {r : ℕ} → k ≡ contents.Kv v → r ≡ keyRefusal s checked (v .key) (v .op) → r ≡ contentRefusal s checked used rows k
   unfolding contentRefusal
-  key-refused p q = rw p q
+  refusal-key p q = rw p q
 
 -- A piece of an item.
 module _ (lies : Bool) (at n all : ℕ) where

@@ -21,7 +21,7 @@ use Rattle.log_item.specs.Pieces.{span}
 use Rattle.log_item.specs.Reading.{command, putAt, keyValue, firstIndex, entryIndexes, head, tail, tails, oneItem}
 use Rattle.log_item.specs.Reading as reading
 use Rattle.log_item.proofs.Holds.{Holds, holds, refuses, after, at-most, is}
-use Rattle.log_item.proofs.Place.{join, nothing, sound-byte}
+use Rattle.log_item.proofs.Place.{join, at-nothing, sound-byte}
 use Rattle.log_item.proofs.Numbers.{sound-number}
 use Rattle.log_item.proofs.Complete.{tails-length}
 
@@ -89,7 +89,7 @@ module _ (form : Form) (s : List ℕ) (asks : Asks form s) where
   pub sound-tails : (n i t p : ℕ) → i + n ≤ 18446744073709551616 → Holds (λ r q. Found s (TailsSpelled form n i t r) p q) (tails form s n i t p)
   unfolding tails
   sound-tails zero i t p h =
-      holds (record { bytes = []; at = nothing p; has = record { tails = no-more; each = every.Each.none } })
+      holds (record { bytes = []; at = at-nothing p; has = record { tails = no-more; each = every.Each.none } })
   sound-tails (suc n) i t p h =
       after (sound-tail t p) λ w a f.
       after (sound-tails n (i + 1) w a (omega arith)) λ r q g.

@@ -20,7 +20,7 @@ use Rattle.log_item.specs.declared.EntryIndex.{EntryIndex}
 
 -- A number in any permitted spelling, or in its shortest alone.
 abbrev pub NumberIn : Form → ℕ → List ℕ → Type 0
-NumberIn Any n bs = numbers.Spells n bs
+NumberIn Any n bs = numbers.SpellsNumber n bs
 NumberIn Plain n bs = (n < 2 ^ 64) × (bs ≡ shortest n)
 
 module _ (Number : ℕ → List ℕ → Type 0) where

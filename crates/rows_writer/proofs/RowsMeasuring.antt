@@ -26,10 +26,10 @@ module _ (s : List ℕ) (checked : Bool) (items entries : List ℕ) where
   rows-many h = rw (lt-ltb 256 (itemRowCount items) h)
 
   module _ (few : itemRowCount items ≤ 256) where
-    pub rows-refused : {n k : ℕ} → itemsVerdict s checked (rowItems items) (entryLengths entries) 0 0 0 ≡ refused n k
+    pub rows-item-refused : {n k : ℕ} → itemsVerdict s checked (rowItems items) (entryLengths entries) 0 0 0 ≡ refused n k
         → measured n k 0 0 ≡ measureRows s checked items entries
     unfolding measureRows rowsVerdict measuredOf
-    rows-refused e = rw (le-ltb 256 (itemRowCount items) few, e)
+    rows-item-refused e = rw (le-ltb 256 (itemRowCount items) few, e)
 
     pub rows-bad : {t i r : ℕ} → itemsVerdict s checked (rowItems items) (entryLengths entries) 0 0 0 ≡ fine t → length (rowItems items) ≡ i → i < itemRowCount items
         → itemOfRow items i ≡ Refused r → measured r i 0 0 ≡ measureRows s checked items entries
