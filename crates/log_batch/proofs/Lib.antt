@@ -24,6 +24,5 @@ pub mod Frames
 pub mod Framing
 pub mod Determined
 pub mod Again
-pub mod Refusing
 pub mod Whole
 pub mod Theorems

@@ -21,7 +21,7 @@ use Rattle.log_batch.specs.Acceptable.{Begins}
 use Rattle.log_batch.specs.Rows.{Joined, Indexed}
 use Rattle.log_batch.specs.Rows as lie
 use Rattle.log_item.specs.Place.{At, Found, Asks}
-use Rattle.log_item.proofs.Holds.{Holds, holds, after, at-most}
+use Rattle.log_item.proofs.Holds.{Says, holds, after, if-most}
 use Rattle.log_item.proofs.Place.{join, cut, at-nothing, at-front}
 use Rattle.log_item.proofs.Numbers.{complete-number, sound-number, number-some, in-any}
 use Rattle.log_batch.proofs.ItemRows.{each-append, each-split, item-length, item-joined, item-consecutive, joined-append}
@@ -85,9 +85,9 @@ module _ (form : Form) (s : List ℕ) (asks : Asks form s) where
       }
 
   -- A count that is read is spelled, and at most 256.
-  pub sound-count : Holds (λ k q. Found s (NumberIn form k) 0 q × (k ≤ 256)) (count form s 0)
+  pub sound-count : Says (λ k q. Found s (NumberIn form k) 0 q × (k ≤ 256)) (count form s 0)
   unfolding count
-  sound-count = after (sound-number form s asks 0) λ k q f. at-most k 256 _ _ _ λ few. holds (f, few)
+  sound-count = after (sound-number form s asks 0) λ k q f. if-most k 256 _ _ _ λ few. holds (f, few)
 
   -- A list that is read spells a beginning, within the limits, and the place after it is where the beginning ends.
   pub sound : Accepts (λ xs rows u q. (bytes : List ℕ) × Begins form s xs rows u bytes × (q ≡ length bytes)) (readItems form s)

@@ -12,7 +12,7 @@ use Rattle.words.specs.Byte.{Bytes}
 use Rattle.words.proofs.Bytes.{bytes-front, bytes-drop}
 use Rattle.log_item.specs.Got.{got}
 use Rattle.log_item.specs.Pieces.{byte}
-use Rattle.log_item.proofs.Holds.{Holds, holds, below}
+use Rattle.log_item.proofs.Holds.{Says, holds, if-below}
 use Rattle.log_item.specs.Place.{At}
 
 -- Bytes with others behind them begin them.
@@ -55,6 +55,6 @@ module _ {s : List ℕ} where
       rw (lt-ltb _ _ h) (cc (drop-cons s p 0 h, f .stand))
 
 -- A byte that is read at a place stands there.
-pub sound-byte : (s : List ℕ) (p : ℕ) → Holds (λ b q. At s p q (b ∷ [])) (byte s p)
+pub sound-byte : (s : List ℕ) (p : ℕ) → Says (λ b q. At s p q (b ∷ [])) (byte s p)
 unfolding byte
-sound-byte s p = below p (length s) _ _ _ λ h. holds (at-byte p h)
+sound-byte s p = if-below p (length s) _ _ _ λ h. holds (at-byte p h)
