@@ -35,11 +35,11 @@ use Rattle.log_item.proofs.Forms.{form-any}
 use Rattle.log_item.proofs.Complete.{complete-item}
 use Rattle.log_item.specs.Bytes.{spanBytes, commandBytes, opBytes, entriesBytes, contentBytes, headBytes, tailsBytes}
 use Rattle.log_item.specs.Refusing.{opInside, contentInside, contentRefusal}
-use Rattle.refusal.specs.First.{firstOf}
+use Rattle.refusal.proofs.First.{neither-refused, untaken, taken}
 use Rattle.log_item.specs.Written.{sumOf, rowLengths, itemBytes, tailRefusal, itemRefusal}
 use Rattle.log_item.specs.Relocated.{spanAt, keyAt, stated, contentAt, itemAt, rowsFrom, itemRows, spansOf, numbersOf, Small}
 use Rattle.log_item.proofs.Lengths.{part-length, span-length}
-use Rattle.log_item.proofs.Refusals.{untaken, taken, content-inside, content-allowed}
+use Rattle.log_item.proofs.Refusals.{content-inside, content-allowed}
 use Rattle.log_item.proofs.Tails.{sum-rises}
 
 -- ---- pieces
@@ -210,10 +210,6 @@ module _ (s : List ℕ) (x : LogItem) (lengths : List ℕ) (t : ℕ) (w : Writab
   read-written-item form e out at room few last =
       let f = placed-at out at (itemBytes s x lengths t) room in
       (read-item-at form e f few last, spans-kept f)
-
-pub neither-refused : (n r : ℕ) → firstOf n r ≡ 0 → (n ≡ 0) × (r ≡ 0)
-neither-refused zero r h = (refl, h)
-neither-refused (suc n) r h = absurd (omega arith)
 
 -- The first index is among the numbers of a content.
 pub first-small : (k : LogItemContent) → Small (numbersOf k) → entriesOf k .«first_index» < 2 ^ 64

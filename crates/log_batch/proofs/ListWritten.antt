@@ -11,6 +11,7 @@ use lib.Dec.{ltb, leb}
 use lib.ListN.{length, drop}
 use borrow.Author.Tests.{eq-eqb, ne-eqb, le-leb, leb-true, leb-false, ltb-false}
 use Rattle.refusal.specs.First.{firstOf}
+use Rattle.refusal.proofs.First.{neither-refused, untaken}
 use Rattle.log_item.specs.Entries.{entriesOf}
 use Rattle.log_item.specs.declared.LogItem.{LogItem}
 use Rattle.log_item.specs.Refusing.{contentRefusal}
@@ -22,12 +23,10 @@ use Rattle.list_writer.specs.Bytes.{bodyBytes}
 use Rattle.list_measure.specs.Refusing.{Verdict, fine, refused, unlessItem, itemsVerdict, listVerdict}
 use Rattle.list_measure.specs.Answers.{measureOf}
 use Rattle.list_writer.specs.Answers.{encoded, encodedIn, encodedOf, laid, MeasuredWritten}
-use Rattle.log_item.proofs.Refusals.{untaken}
 use Rattle.list_measure.proofs.Heads.{unless-fine}
 use Rattle.list_measure.proofs.Measuring.{Measures, sized, refuses, measures}
 use Rattle.list_writer.proofs.Bodies.{accepted, body-length, placing-refused, placing-21, placing-fits}
 use Rattle.log_batch.proofs.Encoding.{Encodes, writes, leaves}
-use Rattle.log_batch.proofs.ItemWritten.{neither-refused}
 
 -- ---- items
 
