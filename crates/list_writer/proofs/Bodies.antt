@@ -3,12 +3,12 @@
 use Prim.Native.Nat.{ℕ, _+_, _-_, _≤_, _<_}
 use mathlib.Core.Path.{_≡_, refl, sym, ap, _∙_}
 use mathlib.Core.Bool.{Bool, true, false, cond}
-use mathlib.Core.List.{List, _++_, append-assoc}
+use mathlib.Core.List.{List}
 use native.Mathlib.Omega.{arith}
 use lib.Dec.{leb, eqb}
 use lib.Bits.{bitXor}
 use lib.ListN.{length, take, drop, length-append}
-use lib.Seq.{sets-eq, drop-at, take-append-seam, length-take-le}
+use lib.Seq.{sets-eq, take-at}
 use borrow.Author.Tests.{eq-eqb, ne-eqb, le-leb, lt-leb, leb-true}
 use Rattle.numbers.specs.Shortest.{shortest}
 use Rattle.words.specs.Word.{littleEndianBytes}
@@ -17,7 +17,7 @@ use Rattle.words.proofs.Words.{length-little}
 use Rattle.crc.specs.Crc.{crcOf}
 use Rattle.log_item.specs.declared.LogItem.{LogItem}
 use Rattle.log_item.specs.Private.{Room, Stored}
-use Rattle.log_item.proofs.Stores.{stored-at, stored-then, stored-length}
+use Rattle.log_item.proofs.Stores.{stored-at, stored-stands, stored-then, stored-length}
 use Rattle.list_measure.specs.declared.Measured.{Measured}
 use Rattle.list_writer.specs.declared.Encoded.{Encoded}
 use Rattle.list_measure.specs.Bytes.{itemsBytes, listBytes}
@@ -56,11 +56,8 @@ accepted s checked xs ns m e h =
 -- What was stored from a place on stands there.
 stands : {out mid bs : List ℕ} {at next : ℕ} → at + length bs ≤ length out → Stored out at bs next mid → take (next - at) (drop at mid) ≡ bs
 stands {out} {mid} {bs} {at} {next} h w =
-    let z : next - at ≡ length bs = omega (arith, w .after) in
-    ap (λ (n : ℕ). take n (drop at mid)) z
-    ∙ ap (λ (l : List ℕ). take (length bs) (drop at l)) (w .stored ∙ sets-eq bs out at h ∙ append-assoc (take at out) bs (drop (at + length bs) out))
-    ∙ ap (λ (l : List ℕ). take (length bs) l) (drop-at (take at out) (bs ++ drop (at + length bs) out) at (length-take-le at out (omega arith)))
-    ∙ take-append-seam bs (drop (at + length bs) out)
+    let a = stored-stands (record { fits = h }) w in
+    rw (a .stand) (take-at bs (drop next mid) (next - at) (omega (arith, w .after)))
 
 with-footer : (signature : ℕ) {out mid later bs : List ℕ} {at next last : ℕ} → at + length bs ≤ length out → Stored out at bs next mid
     → Stored mid next (footerOf signature at next mid) last later

@@ -8,7 +8,6 @@ pub mod Filling
 pub mod Tables
 pub mod ItemRows
 pub mod ItemWritten
-pub mod Encoding
 pub mod ListWritten
 pub mod Accepts
 pub mod Listing

@@ -5,11 +5,11 @@ use Prim.Native.Nat.{ℕ, zero, suc, _+_, _≤_, _<_}
 use mathlib.Core.Path.{_≡_, refl, sym, ap, _∙_}
 use mathlib.Core.Logic.{_⊎_, inl, inr}
 use mathlib.Core.Bool.{Bool, true, false, cond}
-use mathlib.Core.List.{List, [], _∷_}
+use mathlib.Core.List.{List, [], _∷_, _++_}
 use native.Mathlib.Omega.{arith}
 use lib.Dec.{ltb, leb}
-use lib.ListN.{length, drop}
-use borrow.Author.Tests.{eq-eqb, ne-eqb, le-leb, leb-true, leb-false, ltb-false}
+use lib.ListN.{length, take, drop}
+use borrow.Author.Tests.{ne-eqb, le-leb, leb-true, leb-false, ltb-false}
 use Rattle.refusal.specs.First.{firstOf}
 use Rattle.refusal.proofs.First.{neither-refused, untaken}
 use Rattle.log_item.specs.Entries.{entriesOf}
@@ -24,9 +24,8 @@ use Rattle.list_measure.specs.Refusing.{Verdict, fine, refused, unlessItem, ite
 use Rattle.list_measure.specs.Answers.{measureOf}
 use Rattle.list_writer.specs.Answers.{encoded, encodedIn, encodedOf, laid, MeasuredWritten}
 use Rattle.list_measure.proofs.Heads.{unless-fine}
-use Rattle.list_measure.proofs.Measuring.{Measures, sized, refuses, measures}
+use Rattle.list_measure.proofs.Measuring.{Sized, Measures, sized, refuses, measures}
 use Rattle.list_writer.proofs.Bodies.{accepted, body-length, placing-refused, placing-21, placing-fits}
-use Rattle.log_batch.proofs.Encoding.{Encodes, writes, leaves}
 
 -- ---- items
 
@@ -66,49 +65,45 @@ list-number s checked xs ns n i e = first (ltb 256 (length xs)) 9 0 _ n i (omega
 
 -- ---- what an answer of `encode` tells
 
-pub encodes : (s : List ℕ) (checked : Bool) (xs : List LogItem) (ns : List ℕ) (signature : ℕ) (out : List ℕ) (at : ℕ) {r : Encoded} {later : List ℕ}
-    → MeasuredWritten (measureOf s checked xs ns) (bodyBytes s xs ns signature) out at r later → Encodes s checked xs ns signature out at r later
-unfolding measureOf encodedOf laid
-encodes s checked xs ns signature out at {r} {later} w = go (measures v n refl)
-  where
-    v : Verdict
-    v = listVerdict s checked xs ns
+module _ (s : List ℕ) (checked : Bool) (xs : List LogItem) (ns : List ℕ) (signature : ℕ) (out : List ℕ) (at : ℕ) where
+  -- The body stands at the place and all else is as it was, or it is refused and nothing is touched.
+  pub data Encodes (r : Encoded) (later : List ℕ) : Type 0 where
+    writes : {total : ℕ} → r .number ≡ 0 → listVerdict s checked xs ns ≡ fine total → r .length ≡ length (bodyBytes s xs ns signature)
+        → later ≡ take at out ++ bodyBytes s xs ns signature ++ drop (at + length (bodyBytes s xs ns signature)) out → Encodes r later
+    leaves : 0 < r .number → later ≡ out → Encodes r later
 
-    n : ℕ
-    n = length (listBytes s xs ns)
+  pub encodes : {r : Encoded} {later : List ℕ} → MeasuredWritten (measureOf s checked xs ns) (bodyBytes s xs ns signature) out at r later → Encodes r later
+  unfolding measureOf encodedOf laid
+  encodes {r} {later} w = go (measures v n refl)
+    where
+      v : Verdict
+      v = listVerdict s checked xs ns
 
-    m : Measured
-    m = measureOf s checked xs ns
+      n : ℕ
+      n = length (listBytes s xs ns)
 
-    left : {a b : ℕ} → 0 < a → encoded a b 0 ≡ encodedIn m (length out) at → Encodes s checked xs ns signature out at r later
-    left {a} {b} p e =
-        let k : r ≡ encoded a b 0 = w .answer ∙ sym e in
-        let z : r .length ≡ 0 = ap (λ (x : Encoded). x .length) k in
-        leaves (omega (arith, ap (λ (x : Encoded). x .number) k)) z (w .written ∙ (rw (eq-eqb (r .length) 0 z)))
+      m : Measured
+      m = measureOf s checked xs ns
 
-    room : (m .length ≡ 0 → ⊥) → (b : Bool) → leb (at + m .length) (length out) ≡ b → Encodes s checked xs ns signature out at r later
-    room some true h =
-        let l = leb-true (at + m .length) (length out) h in
-        let k : r ≡ encoded 0 0 (m .length) = w .answer ∙ sym (placing-fits m (length out) at some l) in
-        let a = accepted s checked xs ns m refl some in
-        let whole : r .length ≡ length (bodyBytes s xs ns signature) = ap (λ (x : Encoded). x .length) k ∙ sym (body-length signature a) in
-        let fit : at + length (bodyBytes s xs ns signature) ≤ length out = omega (arith, body-length signature a) in
-        let long : r .length ≡ 0 → ⊥ = λ z. some (sym (ap (λ (x : Encoded). x .length) k) ∙ z) in
-        writes (ap (λ (x : Encoded). x .number) k) (omega (arith, long))
-        (record {
-          total = a .total;
-          few = a .few;
-          told = a .told;
-          whole = whole;
-          fits = fit;
-          bytes = w .written ∙ (rw (ne-eqb (r .length) 0 long, le-leb _ (length out) fit));
-        })
-    room some false h = left (omega arith) (placing-21 m (length out) at some (leb-false (at + m .length) (length out) h))
+      left : {a b : ℕ} → 0 < a → encoded a b 0 ≡ encodedIn m (length out) at → Encodes r later
+      left {a} {b} p e =
+          let k : r ≡ encoded a b 0 = w .answer ∙ sym e in
+          leaves (omega (arith, ap (λ (x : Encoded). x .number) k)) (w .written ∙ (rw k))
 
-    number : (v ≡ refused (m .number) (m .item)) ⊎ (m .number ≡ 22) → 0 < m .number
-    number (inl e) = list-number s checked xs ns (m .number) (m .item) e
-    number (inr e) = omega arith
+      room : Sized v n m → (m .length ≡ 0 → ⊥) → (b : Bool) → leb (at + m .length) (length out) ≡ b → Encodes r later
+      room f some true h =
+          let l = leb-true (at + m .length) (length out) h in
+          let k : r ≡ encoded 0 0 (m .length) = w .answer ∙ sym (placing-fits m (length out) at some l) in
+          let whole = body-length signature (accepted s checked xs ns m refl some) in
+          let fit : at + length (bodyBytes s xs ns signature) ≤ length out = omega arith in
+          writes (ap (λ (x : Encoded). x .number) k) (f .told) (ap (λ (x : Encoded). x .length) k ∙ sym whole)
+          (w .written ∙ (rw (k, ne-eqb (m .length) 0 some, le-leb _ (length out) fit)))
+      room f some false h = left (omega arith) (placing-21 m (length out) at some (leb-false (at + m .length) (length out) h))
 
-    go : Measures v n m → Encodes s checked xs ns signature out at r later
-    go (sized f) = room (λ z. omega (arith, f .long)) (leb (at + m .length) (length out)) refl
-    go (refuses p z) = left (number p) (placing-refused m (length out) at z)
+      number : (v ≡ refused (m .number) (m .item)) ⊎ (m .number ≡ 22) → 0 < m .number
+      number (inl e) = list-number s checked xs ns (m .number) (m .item) e
+      number (inr e) = omega arith
+
+      go : Measures v n m → Encodes r later
+      go (sized f) = room f (λ z. omega (arith, f .long)) (leb (at + m .length) (length out)) refl
+      go (refuses p z) = left (number p) (placing-refused m (length out) at z)
