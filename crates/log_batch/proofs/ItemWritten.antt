@@ -21,7 +21,7 @@ use Rattle.log_item.specs.Private.{Room}
 use Rattle.log_item.specs.Prefix.{bytesOf, inside}
 use Rattle.log_item.specs.Reading.{oneItem}
 use Rattle.log_item.specs.declared.Form.{Form}
-use Rattle.log_item.specs.declared.Form.the-variants.{Any, Plain}
+use Rattle.log_item.specs.declared.Form.the-variants.{Plain}
 use Rattle.log_item.specs.declared.Span.{Span}
 use Rattle.log_item.specs.declared.Command.{Command}
 use Rattle.log_item.specs.declared.Command.the-variants.{Clean, Compact}
@@ -32,7 +32,7 @@ use Rattle.log_item.specs.declared.LogItemContent.the-variants as contents
 use Rattle.log_item.specs.declared.LogItem.{LogItem}
 use Rattle.log_item.specs.declared.EntryIndex.{EntryIndex}
 use Rattle.log_item.proofs.Place.{cut}
-use Rattle.log_item.proofs.Forms.{form-any}
+use Rattle.log_item.proofs.Forms.{in-form}
 use Rattle.log_item.proofs.Complete.{complete-item}
 use Rattle.log_item.specs.Bytes.{spanBytes, commandBytes, opBytes, entriesBytes, contentBytes, headBytes, tailsBytes}
 use Rattle.log_item.specs.Refusing.{opInside, contentInside, contentRefusal}
@@ -122,11 +122,6 @@ rows-from-length : (i t : ℕ) (lengths : List ℕ) → length (rowsFrom i t len
 unfolding rowsFrom
 rows-from-length i t [] = refl
 rows-from-length i t (n ∷ lengths) = ap suc (rows-from-length (i + 1) (t + n) lengths)
-
-in-form : (form : Form) {x : LogItem} {rows : List EntryIndex} {t u p : ℕ} {bytes : List ℕ} → OneItem (NumberIn Plain) x rows t u p bytes
-    → OneItem (NumberIn form) x rows t u p bytes
-in-form Any h = form-any h
-in-form Plain h = h
 
 module _ (s : List ℕ) {b : List ℕ} where
   span-kept : {p q : ℕ} (k : Span) → inside s k ≡ true → At b p q (spanBytes s k) → bytesOf b (spanAt p k) ≡ bytesOf s k

@@ -4,6 +4,7 @@
 use Prim.Native.Nat.{ℕ, zero, suc, _+_, _-_, _<_}
 use mathlib.Core.Path.{_≡_, refl, sym, ap, _∙_}
 use mathlib.Core.List.{List, _∷_}
+use native.Mathlib.Omega.{arith}
 use lib.ListN.{length}
 use Rattle.log_item.specs.Got.{Got, got, refused, Reading, done, bind}
 use Rattle.log_item.specs.Entries.{entriesOf, tailRow}
@@ -13,7 +14,6 @@ use Rattle.log_item.specs.declared.Form.{Form}
 use Rattle.log_item.specs.declared.EntryIndex.{EntryIndex}
 use Rattle.log_item.specs.declared.EntryIndexes.{EntryIndexes}
 use Rattle.log_item.specs.declared.LogItem.{LogItem}
-use Rattle.log_item.proofs.Parts.{one-more}
 use Rattle.log_item.proofs.Holds.{Holds, holds, after, later, only, of-got}
 
 -- the total alone
@@ -60,23 +60,18 @@ module _ (form : Form) (s : List ℕ) where
   unfolding passTails tails
   pass-end t p e = rw e
 
-  pass-suc : (n t p w q : ℕ) → tail form s t p ≡ got w q → totalOf (tails form s (suc n) 0 t p) ≡ totalOf (tails form s n (0 + 1) w q)
+  pub pass-next : (n t p : ℕ) → 0 < n → {w q : ℕ} → tail form s t p ≡ got w q → passTails form s (n - 1) w q ≡ passTails form s n t p
   unfolding tails
-  pass-suc n t p w q e = rw e (row-ahead _ (tails form s n (0 + 1) w q))
+  pass-next zero t p some e = absurd (omega arith)
+  pass-next (suc n) t p some {w} {q} e =
+      let less : suc n - 1 ≡ n = omega arith in
+      let one : totalOf (tails form s (suc n) 0 t p) ≡ totalOf (tails form s n (0 + 1) w q) = rw e (row-ahead _ (tails form s n (0 + 1) w q)) in
+      rw less (sym (total-pass n (0 + 1) w q) ∙ sym one ∙ total-pass (suc n) 0 t p)
 
-  stop-suc : (n t p r : ℕ) → tail form s t p ≡ refused r → totalOf (tails form s (suc n) 0 t p) ≡ refused r
-  unfolding tails
-  stop-suc n t p r e = rw e
-
-  module _ (n t p : ℕ) (some : 0 < n) where
-    pub pass-next : {w q : ℕ} → tail form s t p ≡ got w q → passTails form s (n - 1) w q ≡ passTails form s n t p
-    pass-next {w} {q} e =
-        sym (total-pass (n - 1) (0 + 1) w q) ∙ sym (pass-suc (n - 1) t p w q e) ∙ total-pass (suc (n - 1)) 0 t p
-        ∙ ap (λ m. passTails form s m t p) (one-more n some)
-
-    pub pass-stop : {r : ℕ} → tail form s t p ≡ refused r → refused r ≡ passTails form s n t p
-    pass-stop {r} e =
-        sym (stop-suc (n - 1) t p r e) ∙ total-pass (suc (n - 1)) 0 t p ∙ ap (λ m. passTails form s m t p) (one-more n some)
+  pub pass-stop : (n t p : ℕ) → 0 < n → {r : ℕ} → tail form s t p ≡ refused r → refused r ≡ passTails form s n t p
+  unfolding passTails tails
+  pass-stop zero t p some e = absurd (omega arith)
+  pass-stop (suc n) t p some e = rw e
 
   -- ---- an item
 
