@@ -1,15 +1,16 @@
 -- The body: what its measure says of it, the footer behind the list, and the answer of each way out of `encode`.
 -- Assumes nothing.
 use Prim.Native.Nat.{ℕ, _+_, _-_, _≤_, _<_}
-use mathlib.Core.Path.{_≡_, refl, sym, ap, _∙_}
-use mathlib.Core.Bool.{Bool, true, false, cond}
+use mathlib.Core.Path.{_≡_, sym, ap, _∙_}
+use mathlib.Core.Bool.{Bool}
 use mathlib.Core.List.{List}
 use native.Mathlib.Omega.{arith}
 use lib.Dec.{leb, eqb}
 use lib.Bits.{bitXor}
 use lib.ListN.{length, take, drop, length-append}
 use lib.Seq.{sets-eq, take-at}
-use borrow.Author.Tests.{eq-eqb, ne-eqb, le-leb, lt-leb, leb-true}
+use borrow.Author.Tests.{eq-eqb, ne-eqb, le-leb, lt-leb, leb-true, eqb-false}
+use Rattle.refusal.proofs.First.{not-first, not-second}
 use Rattle.numbers.specs.Shortest.{shortest}
 use Rattle.words.specs.Word.{littleEndianBytes}
 use Rattle.words.specs.Write.{nextAt, placed}
@@ -126,16 +127,13 @@ module _ (m : Measured) (all at : ℕ) where
 -- A length that is not 0 is the measure's, and the body fits.
 pub placing-told : {told m : Measured} → m ≡ told → (all at : ℕ) {r : Encoded} → r ≡ encodedIn m all at → (r .length ≡ 0 → ⊥)
     → (m .length ≡ 0 → ⊥) × (at + m .length ≤ all) × (r .length ≡ m .length)
-placing-told {told} {m} same all at {r} e h = go (eqb (m .length) 0) refl e
+placing-told {told} {m} same all at {r} e h =
+    let a = not-first (eqb (m .length) 0) e none in
+    let b = not-second (leb (at + m .length) all) (a .1) none in
+    (eqb-false (m .length) 0 (a .0), leb-true _ _ (b .0), ap (λ (x : Encoded). x .length) (b .1))
   where
-    last : (b : Bool) → leb (at + m .length) all ≡ b → r ≡ cond b (encoded 0 0 (m .length)) (encoded 21 0 0) → (at + m .length ≤ all) × (r .length ≡ m .length)
-    last true g q = (leb-true _ _ g, ap (λ (x : Encoded). x .length) q)
-    last false g q = absurd (h (ap (λ (x : Encoded). x .length) q))
-
-    go : (b : Bool) → eqb (m .length) 0 ≡ b → r ≡ cond b (encoded (m .number) (m .item) 0) (cond (leb (at + m .length) all) (encoded 0 0 (m .length)) (encoded 21 0 0))
-        → (m .length ≡ 0 → ⊥) × (at + m .length ≤ all) × (r .length ≡ m .length)
-    go true g q = absurd (h (ap (λ (x : Encoded). x .length) q))
-    go false g q = let k = last (leb (at + m .length) all) refl q in ((λ z. h (k .1 ∙ z)), k .0, k .1)
+    none : {n i : ℕ} → r ≡ encoded n i 0 → ⊥
+    none e = h (ap (λ (x : Encoded). x .length) e)
 
 -- ---- the ways out
 

@@ -3,13 +3,14 @@
 use Prim.Native.Nat.{ℕ, _+_, _*_, _≤_, _<_}
 use mathlib.Core.Path.{_≡_, refl, ap, _∙_}
 use mathlib.Core.Logic.{_⊎_, inl, inr}
-use mathlib.Core.Bool.{Bool, true, false, cond, _&&_, and-false}
+use mathlib.Core.Bool.{Bool, true, false, _&&_, and-false}
 use mathlib.Core.List.{List, [], _++_}
 use native.Mathlib.Omega.{arith}
 use lib.Bits.{xor-zero-r}
 use lib.Dec.{ltb, leb, eqb}
 use lib.ListN.{length, length-append}
 use borrow.Author.Tests.{eq-eqb, ne-eqb, le-leb, lt-leb, lt-ltb, le-ltb, leb-true, ltb-false, eqb-true, eqb-false}
+use Rattle.refusal.proofs.First.{not-first, not-second}
 use Rattle.words.specs.Word.{bigEndianBytes, littleEndianBytes}
 use Rattle.words.proofs.Words.{length-big, length-little}
 use Rattle.crc.specs.Crc.{crcOf}
@@ -114,6 +115,7 @@ module _ (m : Measured) (items : ℕ) (content : List ℕ) (room : ℕ) {r : Enc
 
 -- What an answer with a length tells.
 pub record Planned (m : Measured) (content : List ℕ) (room : ℕ) (r : Encoded) : Type 0 where
+  pub number : r .number ≡ 0
   pub some : m .length ≡ 0 → ⊥
   pub few : length content ≤ 2147483647
   pub total : m .total ≡ length content
@@ -123,71 +125,33 @@ pub record Planned (m : Measured) (content : List ℕ) (room : ℕ) (r : Encoded
 pub planned : (m : Measured) (items : ℕ) (content : List ℕ) (room : ℕ) {r : Encoded} → r ≡ batchEncoded m items content room → (r .length ≡ 0 → ⊥)
     → Planned m content room r
 unfolding batchEncoded
-planned m items content room {r} told h = first (eqb items 0 && eqb (length content) 0) told
+planned m items content room {r} told h =
+    let size : ℕ = bodyOffset content + m .length in
+    let a = not-first (eqb items 0 && eqb (length content) 0) told none in
+    let b = not-first (eqb (m .length) 0) (a .1) none in
+    let c = not-first (ltb 2147483647 (m .total)) (b .1) none in
+    let d = not-second (eqb (m .total) (length content)) (c .1) none in
+    let e = not-second (leb size room) (d .1) none in
+    let long : r .length ≡ size = ap (λ (x : Encoded). x .length) (e .1) in
+    let few = ltb-false 2147483647 (m .total) (c .0) in
+    let same = eqb-true (m .total) (length content) (d .0) in
+    record {
+      number = ap (λ (x : Encoded). x .number) (e .1);
+      some = eqb-false (m .length) 0 (b .0);
+      few = omega arith;
+      total = same;
+      size = long;
+      fits = omega (arith, leb-true size room (e .0));
+    }
   where
-    size : ℕ
-    size = bodyOffset content + m .length
-
-    none : {n i : ℕ} → r ≡ encoded n i 0 → Planned m content room r
-    none e = absurd (h (ap (λ (x : Encoded). x .length) e))
-
-    fifth : (m .length ≡ 0 → ⊥) → m .total ≤ 2147483647 → m .total ≡ length content → (b : Bool) → leb size room ≡ b
-        → r ≡ cond b (encoded 0 0 size) (encoded 21 0 0) → Planned m content room r
-    fifth some few same true t e =
-        let long : r .length ≡ size = ap (λ (x : Encoded). x .length) e in
-        record { some = some; few = omega arith; total = same; size = long; fits = omega (arith, leb-true size room t) }
-    fifth some few same false t e = none e
-
-    fourth : (m .length ≡ 0 → ⊥) → m .total ≤ 2147483647 → (b : Bool) → eqb (m .total) (length content) ≡ b
-        → r ≡ cond b (cond (leb size room) (encoded 0 0 size) (encoded 21 0 0)) (encoded 20 0 0) → Planned m content room r
-    fourth some few true t e = fifth some few (eqb-true _ _ t) (leb size room) refl e
-    fourth some few false t e = none e
-
-    third : (m .length ≡ 0 → ⊥) → (b : Bool) → ltb 2147483647 (m .total) ≡ b
-        → r ≡ cond b (encoded 22 0 0) (cond (eqb (m .total) (length content)) (cond (leb size room) (encoded 0 0 size) (encoded 21 0 0)) (encoded 20 0 0))
-        → Planned m content room r
-    third some true t e = none e
-    third some false t e = fourth some (ltb-false _ _ t) (eqb (m .total) (length content)) refl e
-
-    second : (b : Bool) → eqb (m .length) 0 ≡ b
-        → r ≡ cond b (encoded (m .number) (m .item) 0)
-        (cond (ltb 2147483647 (m .total)) (encoded 22 0 0)
-        (cond (eqb (m .total) (length content)) (cond (leb size room) (encoded 0 0 size) (encoded 21 0 0)) (encoded 20 0 0)))
-        → Planned m content room r
-    second true t e = none e
-    second false t e = third (eqb-false (m .length) 0 t) (ltb 2147483647 (m .total)) refl e
-
-    first : (b : Bool)
-        → r ≡ cond b (encoded 0 0 0)
-        (cond (eqb (m .length) 0) (encoded (m .number) (m .item) 0)
-        (cond (ltb 2147483647 (m .total)) (encoded 22 0 0)
-        (cond (eqb (m .total) (length content)) (cond (leb size room) (encoded 0 0 size) (encoded 21 0 0)) (encoded 20 0 0))))
-        → Planned m content room r
-    first true e = none e
-    first false e = second (eqb (m .length) 0) refl e
+    none : {n i : ℕ} → r ≡ encoded n i 0 → ⊥
+    none e = h (ap (λ (x : Encoded). x .length) e)
 
 -- An answer that refuses has no length.
-record Silent (r : Encoded) : Type 0 where
-  none : (r .number ≡ 0 → ⊥) → r .length ≡ 0
-
-either : (b : Bool) {x y : Encoded} → Silent x → Silent y → Silent (cond b x y)
-either true h k = h
-either false h k = k
-
-silent : (m : Measured) (items : ℕ) (content : List ℕ) (room : ℕ) → Silent (batchEncoded m items content room)
-unfolding batchEncoded
-silent m items content room =
-    either (eqb items 0 && eqb (length content) 0) (no 0 0)
-    (either (eqb (m .length) 0) (no (m .number) (m .item))
-    (either (ltb 2147483647 (m .total)) (no 22 0)
-    (either (eqb (m .total) (length content)) (either (leb size room) (record { none = λ h. absurd (h refl) }) (no 21 0)) (no 20 0))))
-  where
-    size : ℕ
-    size = bodyOffset content + m .length
-
-    no : (n i : ℕ) → Silent (encoded n i 0)
-    no n i = record { none = λ h. refl }
-
 pub refused-length : (m : Measured) (items : ℕ) (content : List ℕ) (room : ℕ) {r : Encoded} → r ≡ batchEncoded m items content room → (r .number ≡ 0 → ⊥)
     → r .length ≡ 0
-refused-length m items content room e h = (rw (← e) at (silent m items content room)) .none h
+refused-length m items content room {r} e h = go (eqb (r .length) 0) refl
+  where
+    go : (b : Bool) → eqb (r .length) 0 ≡ b → r .length ≡ 0
+    go true t = eqb-true _ _ t
+    go false t = absurd (h (planned m items content room e (eqb-false _ _ t) .number))

@@ -2,12 +2,13 @@
 -- Assumes nothing.
 use Prim.Native.Nat.{ℕ, _≤_, _<_}
 use mathlib.Core.Path.{_≡_, refl, sym, ap, _∙_}
-use mathlib.Core.Bool.{Bool, true, false, cond}
+use mathlib.Core.Bool.{Bool}
 use mathlib.Core.List.{List}
 use native.Mathlib.Omega.{arith}
 use lib.Dec.{ltb, eqb}
 use lib.ListN.{length}
 use borrow.Author.Tests.{lt-ltb, le-ltb, eq-eqb, ne-eqb, eqb-true, ltb-false}
+use Rattle.refusal.proofs.First.{not-second}
 use Rattle.item_row.specs.declared.ItemRowRead.the-variants.{Refused}
 use Rattle.item_row.specs.Row.{itemRowCount, itemOfRow}
 use Rattle.numbers.specs.Shortest.{shortest}
@@ -60,12 +61,9 @@ module _ (s : List ℕ) (checked : Bool) (items entries : List ℕ) where
       let same = go (itemsVerdict s checked (rowItems items) (entryLengths entries) 0 0 0) (k .1) in
       (same, e ∙ sym (rows-all (ltb-false 256 (itemRowCount items) (k .0)) same))
     where
-      each : (b : Bool) (t n i : ℕ) {u : ℕ} → cond b (fine t) (refused n i) ≡ fine u → b ≡ true
-      each true t n i q = refl
-      each false t n i q = absurd (let z : _≡_ {A = ℕ} 0 1 = cc in omega arith)
-
       go : {u : ℕ} (v : Verdict) → thenRow items (length (rowItems items)) v ≡ fine u → length (rowItems items) ≡ itemRowCount items
-      go (fine t) q = eqb-true _ _ (each (eqb (length (rowItems items)) (itemRowCount items)) t _ _ q)
+      go (fine t) q =
+          eqb-true _ _ (not-second (eqb (length (rowItems items)) (itemRowCount items)) (sym q) (λ e. let z : _≡_ {A = ℕ} 0 1 = cc in omega arith) .0)
       go (refused a b) q = absurd (let z : _≡_ {A = ℕ} 0 1 = cc in omega arith)
 
   -- ---- the loop
