@@ -1,11 +1,12 @@
 -- What holds of whatever list an answer accepts, and that a refusal says why: a rule for each way to put answers together.
 -- Assumes nothing.
 use Prim.Native.Nat.{ℕ, _<_}
-use mathlib.Core.Path.{_≡_}
+use mathlib.Core.Path.{_≡_, refl}
 use mathlib.Core.List.{List, _∷_, _++_}
+use native.Mathlib.Omega.{arith}
 use Rattle.log_item.specs.declared.LogItem.{LogItem}
 use Rattle.log_item.specs.declared.EntryIndex.{EntryIndex}
-use Rattle.log_item.specs.Got.{Got}
+use Rattle.log_item.specs.Got.{Got, got, refused}
 use Rattle.log_item.specs.Reading.{Read}
 use Rattle.log_item.proofs.Holds.{Says, holds, stops}
 use Rattle.log_batch.specs.Reading.{Answer, accepted, rejected, before, inFront, counted}
@@ -51,3 +52,17 @@ module _ {P Q : List LogItem → List EntryIndex → ℕ → ℕ → Type 0} whe
       → ((xs : List LogItem) (more : List EntryIndex) (u q : ℕ) → P xs more u q → Q (x ∷ xs) (rows ++ more) u q) → Accepts Q (before x rows a)
   accepts-more x rows (accepts h) k = accepts (k _ _ _ _ h)
   accepts-more x rows (rejects h) k = rejects h
+
+-- ---- what an accepted list was read from
+
+-- An item was read in front.
+pub front-got : (i : ℕ) (m : Got Read) (f : Read → ℕ → Answer) {xs : List LogItem} {rows : List EntryIndex} {u q : ℕ} → inFront i m f ≡ accepted xs rows u q
+    → (r : Read) × (z : ℕ) × (m ≡ got r z) × (before (r .item) (r .rows) (f r z) ≡ accepted xs rows u q)
+front-got i (got r z) f e = (r, z, refl, e)
+front-got i (refused n) f e = let o : _≡_ {A = ℕ} 0 1 = cc in absurd (omega arith)
+
+-- What follows it was accepted.
+pub before-got : (x : LogItem) (rows : List EntryIndex) (a : Answer) {xs : List LogItem} {all : List EntryIndex} {u q : ℕ} → before x rows a ≡ accepted xs all u q
+    → (ys : List LogItem) × (more : List EntryIndex) × (a ≡ accepted ys more u q) × (xs ≡ x ∷ ys) × (all ≡ rows ++ more)
+before-got x rows (accepted ys more v z) e = (ys, more, cc, cc, cc)
+before-got x rows (rejected n i) e = let o : _≡_ {A = ℕ} 0 1 = cc in absurd (omega arith)

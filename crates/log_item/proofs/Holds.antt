@@ -1,7 +1,7 @@
 -- What holds of whatever a reading gets, and of the number of its refusal: a rule for each way to put readings together.
 -- Assumes nothing.
 use Prim.Native.Nat.{ℕ, suc, _≤_, _<_}
-use mathlib.Core.Path.{_≡_}
+use mathlib.Core.Path.{_≡_, refl}
 use mathlib.Core.Bool.{Bool, true, false, cond}
 use native.Mathlib.Omega.{arith}
 use lib.Dec.{T, leb, ltb, eqb, leb→le, ltb→lt, eqb→eq}
@@ -25,6 +25,11 @@ module _ {A : Type 0} {P : A → ℕ → Type 0} {R : ℕ → Type 0} where
 
   pub of-refused : {m : Got A} {r : ℕ} → Comes P R m → m ≡ refused r → R r
   of-refused h e = why (rw e at h)
+
+-- What a reading got comes of what its first piece got.
+pub bind-got : {A B : Type 0} (m : Got A) (f : A → Reading B) {y : B} {z : ℕ} → bind m f ≡ got y z → (x : A) × (q : ℕ) × (m ≡ got x q) × (f x q ≡ got y z)
+bind-got (got x q) f e = (x, q, refl, e)
+bind-got (refused r) f e = let o : _≡_ {A = ℕ} 0 1 = cc in absurd (omega arith)
 
 -- A piece, and what is read after it.
 pub after : {A B : Type 0} {P : A → ℕ → Type 0} {Q : B → ℕ → Type 0} {R : ℕ → Type 0} {m : Got A} {f : A → Reading B}

@@ -14,7 +14,7 @@ use Rattle.log_item.specs.declared.Form.{Form}
 use Rattle.log_item.specs.declared.EntryIndex.{EntryIndex}
 use Rattle.log_item.specs.declared.EntryIndexes.{EntryIndexes}
 use Rattle.log_item.specs.declared.LogItem.{LogItem}
-use Rattle.log_item.proofs.Holds.{Holds, holds, after, later, only, of-got}
+use Rattle.log_item.proofs.Holds.{Holds, holds, after, later, only, of-got, bind-got}
 
 -- the total alone
 abbrev pub totalOf : Got (List EntryIndex × ℕ) → Got ℕ
@@ -83,6 +83,24 @@ module _ (form : Form) (s : List ℕ) where
 
   pub as-many-rows : (n i t p : ℕ) {r : List EntryIndex × ℕ} {q : ℕ} → tails form s n i t p ≡ got r q → length (r .0) ≡ n
   as-many-rows n i t p e = of-got (rows-hold n i t p) e
+
+  -- An item that was got is its head and the rows of its tails.
+  pub item-got : (used t p : ℕ) {y : Read} {z : ℕ} → oneItem form s used t p ≡ got y z
+      → (q : ℕ) × (head form s used p ≡ got (y .item) q)
+      × (tails form s (entriesOf (y .item .content) .count) (entriesOf (y .item .content) .«first_index») t q ≡ got (y .rows, y .total) z)
+  unfolding oneItem
+  item-got used t p {y} {z} e =
+      let h = bind-got (head form s used p) _ e in
+      let c = by-rows (h .0) (tails form s (entriesOf (h .0 .content) .count) (entriesOf (h .0 .content) .«first_index») t (h .1)) (h .3) in
+      rw (c .0) (h .1, h .2, c .1)
+    where
+      by-rows : (x : LogItem) (g : Got (List EntryIndex × ℕ)) → bind g (λ r. done (record { item = x; rows = r .0; total = r .1 })) ≡ got y z
+          → (y .item ≡ x) × (g ≡ got (y .rows, y .total) z)
+      by-rows x (got o w) c =
+          let same : y ≡ record { item = x; rows = o .0; total = o .1 } = cc in
+          let place : w ≡ z = cc in
+          rw (same, place) (refl, refl)
+      by-rows x (refused n) c = let o : _≡_ {A = ℕ} 0 1 = cc in absurd (omega arith)
 
   module _ (used t p : ℕ) where
     pub item-no-head : {r : ℕ} → head form s used p ≡ refused r → refused r ≡ passItem form s used t p
