@@ -42,15 +42,15 @@ pub record Sized (v : Verdict) (n : ℕ) (m : Measured) : Type 0 where
 -- Or why there is none: the list is refused, or it is a 22.
 pub data Measures (v : Verdict) (n : ℕ) (m : Measured) : Type 0 where
   sized : Sized v n m → Measures v n m
-  refuses : (v ≡ refused (m .number) (m .item)) ⊎ (m .number ≡ 22) → m .length ≡ 0 → Measures v n m
+  unsized : (v ≡ refused (m .number) (m .item)) ⊎ (m .number ≡ 22) → m .length ≡ 0 → Measures v n m
 
 pub measures : (v : Verdict) (n : ℕ) {m : Measured} → m ≡ measuredOf v n → Measures v n m
 unfolding measuredOf
-measures (refused a b) n e = rw e (refuses (inl refl) refl)
+measures (refused a b) n e = rw e (unsized (inl refl) refl)
 measures (fine t) n e = rw e (go (ltb 4294967295 (n + 4)) refl)
   where
     go : (b : Bool) → ltb 4294967295 (n + 4) ≡ b → Measures (fine t) n (cond b (measured 22 0 0 0) (measured 0 0 (n + 4) t))
-    go true h = refuses (inr refl) refl
+    go true h = unsized (inr refl) refl
     go false h = sized (record { told = refl; number = refl; long = refl; small = ltb-false _ _ h })
 
 pub sized-where : (v : Verdict) (n : ℕ) {m : Measured} → m ≡ measuredOf v n → (m .length ≡ 0 → ⊥) → Sized v n m
@@ -58,7 +58,7 @@ sized-where v n {m} e h = go (measures v n e)
   where
     go : Measures v n m → Sized v n m
     go (sized f) = f
-    go (refuses p z) = absurd (h z)
+    go (unsized p z) = absurd (h z)
 
 -- A list that is not refused has few enough items, and none of them is refused.
 pub list-fine : (s : List ℕ) (checked : Bool) (xs : List LogItem) (ns : List ℕ) {t : ℕ} → listVerdict s checked xs ns ≡ fine t

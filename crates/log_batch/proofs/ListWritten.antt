@@ -24,7 +24,7 @@ use Rattle.list_measure.specs.Refusing.{Verdict, fine, refused, unlessItem, ite
 use Rattle.list_measure.specs.Answers.{measureOf}
 use Rattle.list_writer.specs.Answers.{encoded, encodedIn, encodedOf, laid, MeasuredWritten}
 use Rattle.list_measure.proofs.Heads.{unless-fine}
-use Rattle.list_measure.proofs.Measuring.{Sized, Measures, sized, refuses, measures}
+use Rattle.list_measure.proofs.Measuring.{Sized, Measures, sized, unsized, measures}
 use Rattle.list_writer.proofs.Bodies.{accepted, body-length, placing-refused, placing-21, placing-fits}
 
 -- ---- items
@@ -106,4 +106,4 @@ module _ (s : List ℕ) (checked : Bool) (xs : List LogItem) (ns : List ℕ) (si
 
       go : Measures v n m → Encodes r later
       go (sized f) = room f (λ z. omega (arith, f .long)) (leb (at + m .length) (length out)) refl
-      go (refuses p z) = left (number p) (placing-refused m (length out) at z)
+      go (unsized p z) = left (number p) (placing-refused m (length out) at z)

@@ -20,7 +20,7 @@ use Rattle.list_writer.specs.declared.Encoded.{Encoded}
 use Rattle.list_measure.specs.Bytes.{listBytes}
 use Rattle.list_measure.specs.Refusing.{fine, listVerdict}
 use Rattle.list_measure.specs.Answers.{measureOf}
-use Rattle.list_measure.proofs.Measuring.{Measures, sized, refuses, measures, sized-where}
+use Rattle.list_measure.proofs.Measuring.{Measures, sized, unsized, measures, sized-where}
 use Rattle.list_writer.specs.Bytes.{footed}
 use Rattle.list_writer.specs.Answers.{encoded}
 use Rattle.log_batch.specs.Front.{blockBytes, bodyOffset, headerBytes, frontBytes, batchEncoded}
@@ -67,7 +67,7 @@ body-small s checked xs ns {m} e = go (measures (listVerdict s checked xs ns) (l
   where
     go : Measures (listVerdict s checked xs ns) (length (listBytes s xs ns)) m → m .length ≤ 4294967295
     go (sized f) = f .small
-    go (refuses p z) = omega arith
+    go (unsized p z) = omega arith
 
 -- The verdict on a list whose measure has a length.
 pub verdict-of : (s : List ℕ) (checked : Bool) (xs : List LogItem) (ns : List ℕ) → (measureOf s checked xs ns .length ≡ 0 → ⊥)
