@@ -33,7 +33,7 @@ number-short n h = shortest-spells n (omega arith) .few
 -- ---- what a measure tells
 
 -- Its length: four bytes more than the list, which is not refused.
-pub record Sized (v : Verdict) (n : ℕ) (m : Measured) : Type 0 where
+pub record HasLength (v : Verdict) (n : ℕ) (m : Measured) : Type 0 where
   pub told : v ≡ fine (m .total)
   pub number : m .number ≡ 0
   pub long : m .length ≡ n + 4
@@ -41,7 +41,7 @@ pub record Sized (v : Verdict) (n : ℕ) (m : Measured) : Type 0 where
 
 -- Or why there is none: the list is refused, or it is a 22.
 pub data Measures (v : Verdict) (n : ℕ) (m : Measured) : Type 0 where
-  sized : Sized v n m → Measures v n m
+  sized : HasLength v n m → Measures v n m
   unsized : (v ≡ refused (m .number) (m .item)) ⊎ (m .number ≡ 22) → m .length ≡ 0 → Measures v n m
 
 pub measures : (v : Verdict) (n : ℕ) {m : Measured} → m ≡ measuredOf v n → Measures v n m
@@ -53,10 +53,10 @@ measures (fine t) n e = rw e (go (ltb 4294967295 (n + 4)) refl)
     go true h = unsized (inr refl) refl
     go false h = sized (record { told = refl; number = refl; long = refl; small = ltb-false _ _ h })
 
-pub sized-where : (v : Verdict) (n : ℕ) {m : Measured} → m ≡ measuredOf v n → (m .length ≡ 0 → ⊥) → Sized v n m
+pub sized-where : (v : Verdict) (n : ℕ) {m : Measured} → m ≡ measuredOf v n → (m .length ≡ 0 → ⊥) → HasLength v n m
 sized-where v n {m} e h = go (measures v n e)
   where
-    go : Measures v n m → Sized v n m
+    go : Measures v n m → HasLength v n m
     go (sized f) = f
     go (unsized p z) = absurd (h z)
 

@@ -24,7 +24,7 @@ use Rattle.list_measure.specs.Refusing.{Verdict, fine, refused, unlessItem, ite
 use Rattle.list_measure.specs.Answers.{measureOf}
 use Rattle.list_writer.specs.Answers.{encoded, encodedIn, encodedOf, laid, MeasuredWritten}
 use Rattle.list_measure.proofs.Heads.{unless-fine}
-use Rattle.list_measure.proofs.Measuring.{Sized, Measures, sized, unsized, measures}
+use Rattle.list_measure.proofs.Measuring.{HasLength, Measures, sized, unsized, measures}
 use Rattle.list_writer.proofs.Bodies.{accepted, body-length, placing-refused, placing-21, placing-fits}
 
 -- ---- items
@@ -90,7 +90,7 @@ module _ (s : List ℕ) (checked : Bool) (xs : List LogItem) (ns : List ℕ) (si
           let k : r ≡ encoded a b 0 = w .answer ∙ sym e in
           leaves (omega (arith, ap (λ (x : Encoded). x .number) k)) (w .written ∙ (rw k))
 
-      room : Sized v n m → (m .length ≡ 0 → ⊥) → (b : Bool) → leb (at + m .length) (length out) ≡ b → Encodes r later
+      room : HasLength v n m → (m .length ≡ 0 → ⊥) → (b : Bool) → leb (at + m .length) (length out) ≡ b → Encodes r later
       room f some true h =
           let l = leb-true (at + m .length) (length out) h in
           let k : r ≡ encoded 0 0 (m .length) = w .answer ∙ sym (placing-fits m (length out) at some l) in
