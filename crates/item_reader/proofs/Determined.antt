@@ -4,7 +4,7 @@ use mathlib.Core.Path.{_≡_, refl, sym, _∙_}
 use denote.Ref.{now}
 use Rattle.one_answer.specs.OneAnswer.{OneAnswer}
 use Rattle.one_answer.specs.ByHand.{OneAnswerByHand}
-use Rattle.item_reader.specs.Reader.{opened, stepFrom, after}
+use Rattle.item_reader.specs.Reader.{opened, stepFrom, afterCall}
 use Rattle.item_reader.proofs.ItemReader.open as open-fn
 use Rattle.item_reader.proofs.ItemReader.next as next-fn
 use Rattle.item_reader.proofs.nth.Kinds as nth-kinds
@@ -21,7 +21,7 @@ opening = record {
 
 pub next : OneAnswerByHand next-fn.ended (λ M 𝓤 H. next-fn.clauses 𝓤 H) (λ κs x y s t. (x ≡ y) × (now (s .0) ≡ now (t .0)))
 next = record {
-  Post = λ κs a x s. (x ≡ stepFrom (now (a .0)) .answer) × (now (s .0) ≡ after (now (a .0)));
+  Post = λ κs a x s. (x ≡ stepFrom (now (a .0)) .answer) × (now (s .0) ≡ afterCall (now (a .0)));
   says = λ 𝓤 H A mem run κs a g x s. refl;
   one = λ κs a x y s t p q. (p .0 ∙ sym (q .0), p .1 ∙ sym (q .1));
 }

@@ -12,7 +12,7 @@ use Rattle.log_item.specs.Got.{Got, got, refused, done, bind}
 use Rattle.log_item.specs.Entries.{entriesOf}
 use Rattle.log_item.specs.Reading.{head, tails}
 use Rattle.log_item.specs.Answers.{passTails}
-use Rattle.log_item.proofs.Passing.{totalOf, total-pass, rows-length}
+use Rattle.log_item.proofs.Passing.{totalOf, total-pass, as-many-rows}
 use Rattle.log_item.specs.declared.Form.the-variants.{Any}
 use Rattle.log_item.specs.declared.LogItem.{LogItem}
 use Rattle.log_item.specs.declared.EntryIndex.{EntryIndex}
@@ -50,7 +50,7 @@ module _ (s : List ℕ) (e t p : ℕ) where
     pub with-rows : {w : EntryRows} → w ≡ rowsStanding d q t → {u z : ℕ} → passTails Any s (d .count) t q ≡ got u z
         → got (record { item = x; rows = w; total = u; used = e + d .count }) z ≡ foundAt s e t p
     with-rows k f =
-        rw k (found-by (tails Any s (d .count) (d .«first_index») t q) (λ r o h. rows-length Any s (d .count) (d .«first_index») t q h)
+        rw k (found-by (tails Any s (d .count) (d .«first_index») t q) (λ r o h. as-many-rows Any s (d .count) (d .«first_index») t q h)
         (total-pass Any s (d .count) (d .«first_index») t q ∙ f)
         ∙ sym by-tails)
 

@@ -11,7 +11,7 @@ use Rattle.log_item.specs.declared.Form.the-variants.{Any}
 use Rattle.log_batch.specs.declared.BodyCheck.the-variants.{Accepted, Refused}
 use Rattle.log_batch.specs.Body.{readBody}
 use Rattle.log_batch.specs.Answers.{checkOf}
-use Rattle.log_batch.proofs.Checking.{told, refusal-told}
+use Rattle.log_batch.proofs.Checking.{acceptance-told, refusal-told}
 use Rattle.item_reader.specs.declared.Opening.{Opening}
 use Rattle.item_reader.specs.Reader.{afterCount, openingOf}
 
@@ -27,7 +27,7 @@ module _ (body : List ℕ) (signature : ℕ) where
   pub opens : {m e u q n p : ℕ} → Accepted m e u q ≡ checkOf (readBody body signature) → n ≡ length body - 4 → p ≡ afterCount (take n body)
       → _≡_ {A = Opening} (record { at = p; count = m; refusal = record { number = 0; item = 0 } }) (openingOf body signature)
   unfolding openingOf
-  opens c k e = let t = told (readBody body signature) c in rw (← k, ← e, t .2, t .3)
+  opens c k e = let t = acceptance-told (readBody body signature) c in rw (← k, ← e, t .2, t .3)
 
   pub opens-refused : {r : Refusal} → Refused r ≡ checkOf (readBody body signature) → _≡_ {A = Opening} (record { at = 0; count = 0; refusal = r }) (openingOf body signature)
   unfolding openingOf

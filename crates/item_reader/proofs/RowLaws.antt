@@ -5,6 +5,7 @@ use mathlib.Core.Path.{_≡_, refl}
 use mathlib.Core.List.{List}
 use lib.ListN.{length, take}
 use Rattle.log_item.specs.Got.{got, refused}
+use Rattle.log_item.specs.Entries.{tailRow}
 use Rattle.log_item.specs.Reading.{tail}
 use Rattle.log_item.specs.declared.Form.the-variants.{Any}
 use Rattle.log_batch.specs.Seal.{sealedPart}
@@ -23,7 +24,7 @@ row-end s r h = rw h
 
 module _ (body : List ℕ) (r : EntryRows) {n : ℕ} (k : n ≡ length body - 4) (some : r .left ≡ 0 → ⊥) where
   pub row-next : {w q i : ℕ} → tail Any (take n body) (r .total) (r .at) ≡ got w q → i ≡ (r .index + 1) % 2 ^ 64
-      → row.Row (record { index = r .index; «entry_offset» = r .total; «entry_len» = w - r .total }) (record { at = q; total = w; index = i; left = r .left - 1 })
+      → row.Row (tailRow (r .index) (r .total) w) (record { at = q; total = w; index = i; left = r .left - 1 })
       ≡ nextRow (sealedPart body) r
   unfolding nextRow
   row-next e h = rw (← k, e, h) (some-left (r .left) _ some)

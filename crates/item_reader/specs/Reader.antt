@@ -49,13 +49,13 @@ stepFrom r = stepOf (now (r .body)) (r .at) (r .total) (r .used) (r .item) (r .c
 abbrev pub moved : ItemReader → Step → ItemReader
 moved r s = record { body = r .body; at = s .at; total = s .total; used = s .used; item = s .item; count = r .count; refusal = r .refusal }
 
-abbrev pub after : ItemReader → ItemReader
-after r = moved r (stepFrom r)
+abbrev pub afterCall : ItemReader → ItemReader
+afterCall r = moved r (stepFrom r)
 
 -- the reader after k calls, and what call number k answers, counted from 0
 unfoldable pub afterCalls : ItemReader → ℕ → ItemReader
 afterCalls r zero = r
-afterCalls r (suc k) = after (afterCalls r k)
+afterCalls r (suc k) = afterCall (afterCalls r k)
 
 abbrev pub nthOf : ItemReader → ℕ → Next
 nthOf r k = stepFrom (afterCalls r k) .answer

@@ -3,6 +3,7 @@
 use Prim.Native.Nat.{ℕ, zero, suc, _+_, _-_, _%_, _^_}
 use mathlib.Core.List.{List}
 use Rattle.log_item.specs.Got.{Got, got, refused}
+use Rattle.log_item.specs.Entries.{tailRow}
 use Rattle.log_item.specs.Reading.{tail}
 use Rattle.log_item.specs.declared.Form.the-variants.{Any}
 use Rattle.item_reader.specs.declared.EntryRows.{EntryRows}
@@ -12,9 +13,7 @@ use Rattle.item_reader.specs.declared.RowRead.the-variants as row
 -- the row of a tail, and the rows after it. The index after the last entry may come round to 0
 abbrev pub rowOfTail : EntryRows → Got ℕ → RowRead
 rowOfTail r (got w q) =
-    row.Row
-    (record { index = r .index; «entry_offset» = r .total; «entry_len» = w - r .total })
-    (record { at = q; total = w; index = (r .index + 1) % 2 ^ 64; left = r .left - 1 })
+    row.Row (tailRow (r .index) (r .total) w) (record { at = q; total = w; index = (r .index + 1) % 2 ^ 64; left = r .left - 1 })
 rowOfTail r (refused n) = row.Refused n
 
 -- the row at the next tail, where there is one left

@@ -12,7 +12,7 @@ use Rattle.item_reader.specs.declared.RowRead.the-variants as row
 use Rattle.item_reader.specs.declared.ItemReader.{ItemReader}
 use Rattle.item_reader.specs.declared.Next.the-variants as next
 use Rattle.item_reader.specs.Rows.{nextRow}
-use Rattle.item_reader.specs.Reader.{stepFrom, after, nthOf}
+use Rattle.item_reader.specs.Reader.{stepFrom, afterCall, nthOf}
 
 -- Asked again and again from r on, there come these rows, and then the end.
 pub data GoesThrough (s : List ℕ) : EntryRows → List EntryIndex → Type 0 where
@@ -23,4 +23,4 @@ pub data GoesThrough (s : List ℕ) : EntryRows → List EntryIndex → Type 0 w
 pub data StepsThrough : ItemReader → List LogItem → List EntryIndex → Type 0 where
   end : {r : ItemReader} → ((k : ℕ) → nthOf r k ≡ next.End) → StepsThrough r [] []
   then : {r : ItemReader} {x : LogItem} {p : EntryRows} {xs : List LogItem} {rows more : List EntryIndex} → stepFrom r .answer ≡ next.Item x p
-      → GoesThrough (sealedPart (now (r .body))) p rows → StepsThrough (after r) xs more → StepsThrough r (x ∷ xs) (rows ++ more)
+      → GoesThrough (sealedPart (now (r .body))) p rows → StepsThrough (afterCall r) xs more → StepsThrough r (x ∷ xs) (rows ++ more)

@@ -10,7 +10,7 @@ ghost use Rattle.log_batch.specs.Seal.{sealedPart};
 ghost use Rattle.item_reader.specs.Rows.{nextRow};
 ghost use Rattle.item_reader.specs.Steps.{rowsStanding, foundAt, stayed, stepOf};
 ghost use Rattle.item_reader.specs.Private.{foundGot};
-ghost use Rattle.item_reader.specs.Reader.{afterCount, openingOf, opened, stepFrom, after, nthOf};
+ghost use Rattle.item_reader.specs.Reader.{afterCount, openingOf, opened, stepFrom, afterCall, nthOf};
 use log_batch::BodyCheck;
 use log_batch::content_len;
 use log_item::EntryIndex;
@@ -106,7 +106,7 @@ impl<'a> ItemReader<'a> {
 
     // The next item, the end, or the body's refusal; after the end the end again.
     pub fn next(&mut self) -> Next
-        ensures { λ r. ⌜ (r ≡ stepFrom (now (self .entry)) .answer) × (now (self .exit) ≡ after (now (self .entry))) ⌝ }
+        ensures { λ r. ⌜ (r ≡ stepFrom (now (self .entry)) .answer) × (now (self .exit) ≡ afterCall (now (self .entry))) ⌝ }
     {
         let s = step_at(
             self.body,

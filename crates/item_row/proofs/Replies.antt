@@ -10,5 +10,5 @@ pub same : {m n : ℕ} {v w : List ℕ} {a : Reply} → reply m v ≡ a → repl
 same e h = (cc, cc)
 
 -- A call's result r, promised to be m and known to be d, is replied as m is.
-pub told : {R : Type 0} (f : R → Reply) {r d m : R} → r ≡ m → r ≡ d → f d ≡ f m
-told f e k = ap f (sym k ∙ e)
+pub reply-told : {R : Type 0} (f : R → Reply) {r d m : R} → r ≡ m → r ≡ d → f d ≡ f m
+reply-told f e k = ap f (sym k ∙ e)

@@ -12,32 +12,32 @@ use Rattle.item_row.specs.declared.ItemRowRead.the-variants.{Refused}
 use Rattle.item_row.specs.Row.{itemOf, spanOf, commandRow, keyRow, rowItem}
 
 module _ (group kind a : ℕ) where
-  pub command-clean : kind ≡ 1 → itemOf group (contents.Command Clean) ≡ commandRow group kind a
+  pub row-clean : kind ≡ 1 → itemOf group (contents.Command Clean) ≡ commandRow group kind a
   unfolding commandRow
-  command-clean e = rw e
+  row-clean e = rw e
 
   module _ (one : kind ≡ 1 → ⊥) where
-    pub command-compact : kind ≡ 2 → itemOf group (contents.Command (Compact a)) ≡ commandRow group kind a
+    pub row-compact : kind ≡ 2 → itemOf group (contents.Command (Compact a)) ≡ commandRow group kind a
     unfolding commandRow
-    command-compact e = rw e
+    row-compact e = rw e
 
-    pub command-unknown : (kind ≡ 2 → ⊥) → Refused 11 ≡ commandRow group kind a
+    pub row-no-command : (kind ≡ 2 → ⊥) → Refused 11 ≡ commandRow group kind a
     unfolding commandRow
-    command-unknown e = rw (ne-eqb _ _ one, ne-eqb _ _ e)
+    row-no-command e = rw (ne-eqb _ _ one, ne-eqb _ _ e)
 
 module _ (group kind : ℕ) (key value : Span) where
-  pub key-put : kind ≡ 1 → itemOf group (contents.Kv (record { key = key; op = Put value })) ≡ keyRow group kind key value
+  pub row-put : kind ≡ 1 → itemOf group (contents.Kv (record { key = key; op = Put value })) ≡ keyRow group kind key value
   unfolding keyRow
-  key-put e = rw e
+  row-put e = rw e
 
   module _ (one : kind ≡ 1 → ⊥) where
-    pub key-delete : kind ≡ 2 → itemOf group (contents.Kv (record { key = key; op = Del })) ≡ keyRow group kind key value
+    pub row-delete : kind ≡ 2 → itemOf group (contents.Kv (record { key = key; op = Del })) ≡ keyRow group kind key value
     unfolding keyRow
-    key-delete e = rw e
+    row-delete e = rw e
 
-    pub key-unknown : (kind ≡ 2 → ⊥) → Refused 12 ≡ keyRow group kind key value
+    pub row-no-op : (kind ≡ 2 → ⊥) → Refused 12 ≡ keyRow group kind key value
     unfolding keyRow
-    key-unknown e = rw (ne-eqb _ _ one, ne-eqb _ _ e)
+    row-no-op e = rw (ne-eqb _ _ one, ne-eqb _ _ e)
 
 module _ (group item-type kind a b c d : ℕ) where
   pub row-entries : item-type ≡ 1 → itemOf group (contents.EntryIndexes (record { count = a; «first_index» = b })) ≡ rowItem group item-type kind a b c d

@@ -27,9 +27,9 @@ content-length (contents.Command Clean) = refl
 content-length (contents.Command (Compact i)) = refl
 content-length (contents.Kv k) = key-length (k .key) (k .op)
 
-pub item-length : (x : LogItem) → length (itemWords x) ≡ 7
+pub item-words-length : (x : LogItem) → length (itemWords x) ≡ 7
 unfolding itemWords
-item-length x = ap suc (content-length (x .content))
+item-words-length x = ap suc (content-length (x .content))
 
 -- ---- one row after the other
 
@@ -44,9 +44,9 @@ module _ {A : Type 0} (words : A → List ℕ) where
   flat-more [] x = append-nil (words x)
   flat-more (y ∷ xs) x = rw (flat-more xs x, append-assoc)
 
-pub items-length : (xs : List LogItem) → length (itemsWords xs) ≡ length xs * 7
-items-length xs = flat-length itemWords item-length xs
+pub items-words-length : (xs : List LogItem) → length (itemsWords xs) ≡ length xs * 7
+items-words-length xs = flat-length itemWords item-words-length xs
 
-pub entries-length : (rows : List EntryIndex) → length (entriesWords rows) ≡ length rows * 3
+pub entries-words-length : (rows : List EntryIndex) → length (entriesWords rows) ≡ length rows * 3
 unfolding entryWords
-entries-length rows = flat-length entryWords (λ r. refl) rows
+entries-words-length rows = flat-length entryWords (λ r. refl) rows

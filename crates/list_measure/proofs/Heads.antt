@@ -25,10 +25,10 @@ module _ (s : List ℕ) (checked : Bool) (used rows : ℕ) (x : LogItem) where
       go zero h = (refl, cc, cc)
       go (suc r) h = absurd (let z : _≡_ {A = ℕ} 0 1 = cc in omega arith)
 
-  pub head-refused : (n k : ℕ) (v : Verdict) → measureItem s checked used rows x ≡ Refused n
+  pub unless-refused : (n k : ℕ) (v : Verdict) → measureItem s checked used rows x ≡ Refused n
       → unlessItem (contentRefusal s checked used rows (x .content)) k v ≡ refused n k
   unfolding measureItem
-  head-refused n k v e = go (contentRefusal s checked used rows (x .content)) e
+  unless-refused n k v e = go (contentRefusal s checked used rows (x .content)) e
     where
       go : (r : ℕ) → headOf r (capped (length (headBytes s x))) (entriesOf (x .content) .count) ≡ Refused n → unlessItem r k v ≡ refused n k
       go zero h = absurd (let z : _≡_ {A = ℕ} 0 1 = cc in omega arith)

@@ -2,7 +2,8 @@
 -- Assumes nothing.
 use Prim.Native.Nat.{ℕ, _+_, _-_, _*_, _≤_, _<_}
 use mathlib.Core.Path.{_≡_, refl, sym, ap, _∙_}
-use mathlib.Core.Bool.{Bool, true, false}
+use mathlib.Core.Logic.{_⊎_, inl, inr}
+use mathlib.Core.Bool.{Bool, true, false, cond}
 use mathlib.Core.List.{List, _++_}
 use native.Mathlib.Omega.{arith}
 use lib.Dec.{ltb}
@@ -18,15 +19,54 @@ use Rattle.log_item.specs.Refusing.{contentRefusal}
 use Rattle.log_item.specs.Written.{capped, measureItem}
 use Rattle.log_item.proofs.Refusals.{content-allowed}
 use Rattle.log_item.specs.Blank.{blankItem}
+use Rattle.list_measure.specs.declared.Measured.{Measured}
 use Rattle.list_measure.specs.Bytes.{itemsBytes, listBytes}
-use Rattle.list_measure.specs.Refusing.{fine, refused, unlessItem, itemsVerdict, listVerdict}
+use Rattle.list_measure.specs.Refusing.{Verdict, fine, refused, unlessItem, itemsVerdict, listVerdict}
 use Rattle.list_measure.specs.Answers.{measured, measuredOf, measureOf}
-use Rattle.list_measure.proofs.Heads.{head-fine, head-refused}
+use Rattle.list_measure.proofs.Heads.{head-fine, unless-refused, cond-fine}
 use Rattle.list_measure.proofs.Rest.{restBytes, bytes-row, bytes-item, bytes-end, bytes-start, restVerdict, told-row, told-item, told-end, told-start}
 
 -- A number up to the largest tail has at most ten bytes.
 pub number-short : (n : ℕ) → n ≤ 4294967295 → length (shortest n) ≤ 10
 number-short n h = shortest-spells n (omega arith) .few
+
+-- ---- what a measure tells
+
+-- Its length: four bytes more than the list, which is not refused.
+pub record HasLength (v : Verdict) (n : ℕ) (m : Measured) : Type 0 where
+  pub told : v ≡ fine (m .total)
+  pub number : m .number ≡ 0
+  pub long : m .length ≡ n + 4
+  pub small : m .length ≤ 4294967295
+
+-- Or why there is none: the list is refused, or it is a 22.
+pub data Measures (v : Verdict) (n : ℕ) (m : Measured) : Type 0 where
+  sized : HasLength v n m → Measures v n m
+  unsized : (v ≡ refused (m .number) (m .item)) ⊎ (m .number ≡ 22) → m .length ≡ 0 → Measures v n m
+
+pub measures : (v : Verdict) (n : ℕ) {m : Measured} → m ≡ measuredOf v n → Measures v n m
+unfolding measuredOf
+measures (refused a b) n e = rw e (unsized (inl refl) refl)
+measures (fine t) n e = rw e (go (ltb 4294967295 (n + 4)) refl)
+  where
+    go : (b : Bool) → ltb 4294967295 (n + 4) ≡ b → Measures (fine t) n (cond b (measured 22 0 0 0) (measured 0 0 (n + 4) t))
+    go true h = unsized (inr refl) refl
+    go false h = sized (record { told = refl; number = refl; long = refl; small = ltb-false _ _ h })
+
+pub sized-where : (v : Verdict) (n : ℕ) {m : Measured} → m ≡ measuredOf v n → (m .length ≡ 0 → ⊥) → HasLength v n m
+sized-where v n {m} e h = go (measures v n e)
+  where
+    go : Measures v n m → HasLength v n m
+    go (sized f) = f
+    go (unsized p z) = absurd (h z)
+
+-- A list that is not refused has few enough items, and none of them is refused.
+pub list-fine : (s : List ℕ) (checked : Bool) (xs : List LogItem) (ns : List ℕ) {t : ℕ} → listVerdict s checked xs ns ≡ fine t
+    → (length xs ≤ 256) × (itemsVerdict s checked xs ns 0 0 0 ≡ fine t)
+unfolding listVerdict
+list-fine s checked xs ns {t} h =
+    let k = cond-fine (ltb 256 (length xs)) 9 0 (itemsVerdict s checked xs ns 0 0 0) t h in
+    (ltb-false 256 (length xs) (k .0), k .1)
 
 -- ---- the ways out
 
@@ -51,13 +91,13 @@ measured-capped t size n e = go (ltb 4294967291 size) refl
         ap (λ (k : ℕ). measuredOf (fine t) k) q
 
 module _ (s : List ℕ) (checked : Bool) (xs : List LogItem) (ns : List ℕ) where
-  pub too-many : 256 < length xs → measured 9 0 0 0 ≡ measureOf s checked xs ns
+  pub measured-9 : 256 < length xs → measured 9 0 0 0 ≡ measureOf s checked xs ns
   unfolding measureOf listVerdict measuredOf
-  too-many h = rw (lt-ltb 256 (length xs) h)
+  measured-9 h = rw (lt-ltb 256 (length xs) h)
 
-  pub measure-refused : (n k : ℕ) → length xs ≤ 256 → itemsVerdict s checked xs ns 0 0 0 ≡ refused n k → measured n k 0 0 ≡ measureOf s checked xs ns
+  pub list-refused : (n k : ℕ) → length xs ≤ 256 → itemsVerdict s checked xs ns 0 0 0 ≡ refused n k → measured n k 0 0 ≡ measureOf s checked xs ns
   unfolding measureOf listVerdict measuredOf
-  measure-refused n k h e = rw (le-ltb 256 (length xs) h, e)
+  list-refused n k h e = rw (le-ltb 256 (length xs) h, e)
 
 -- ---- the loop
 
@@ -105,8 +145,8 @@ module _ (s : List ℕ) (checked : Bool) (xs : List LogItem) (ns : List ℕ) whe
           told = sym (rw (le-ltb 4294967295 (t + r) l) at v) ∙ m .told;
         }
 
-    pub row-refused : (r : ℕ) → 0 < tails → getD ns j 0 ≡ r → 4294967295 < t + r → itemsVerdict s checked xs ns 0 0 0 ≡ refused 16 (i - 1)
-    row-refused r h e l =
+    pub measuring-row-refused : (r : ℕ) → 0 < tails → getD ns j 0 ≡ r → 4294967295 < t + r → itemsVerdict s checked xs ns 0 0 0 ≡ refused 16 (i - 1)
+    measuring-row-refused r h e l =
         let v = rw e at (told-row s xs ns checked i j tails t h (m .room)) in
         sym (m .told) ∙ (rw (lt-ltb 4294967295 (t + r) l) at v)
 
@@ -142,9 +182,9 @@ module _ (s : List ℕ) (checked : Bool) (xs : List LogItem) (ns : List ℕ) whe
           told = sym (ap (λ (r : ℕ). unlessItem r i (restVerdict s xs ns checked (i + 1) j n t)) (k .0)) ∙ told-now x z h e;
         })
 
-    pub item-refused : (x : LogItem) (n : ℕ) {rows : ℕ} → length ns ≡ rows → tails ≤ 0 → i < length xs → getD xs i blankItem ≡ x
+    pub measuring-item-refused : (x : LogItem) (n : ℕ) {rows : ℕ} → length ns ≡ rows → tails ≤ 0 → i < length xs → getD xs i blankItem ≡ x
         → measureItem s checked j rows x ≡ Refused n → itemsVerdict s checked xs ns 0 0 0 ≡ refused n i
-    item-refused x n all z h e f = sym (told-now x z h e) ∙ head-refused s checked j (length ns) x n i _ (rw all f)
+    measuring-item-refused x n all z h e f = sym (told-now x z h e) ∙ unless-refused s checked j (length ns) x n i _ (rw all f)
 
     -- the end
     pub told-all : tails ≤ 0 → length xs ≤ i → itemsVerdict s checked xs ns 0 0 0 ≡ fine t

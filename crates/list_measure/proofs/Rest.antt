@@ -17,11 +17,13 @@ use Rattle.log_item.specs.declared.LogItem.{LogItem}
 use Rattle.log_item.specs.Bytes.{headBytes, tailsBytes}
 use Rattle.log_item.specs.Refusing.{contentRefusal}
 use Rattle.log_item.specs.Written.{sumOf, itemBytes}
-use Rattle.log_item.proofs.Parts.{one-more}
 use Rattle.log_item.proofs.Tails.{sum-rises}
 use Rattle.log_item.specs.Blank.{blankItem}
 use Rattle.list_measure.specs.Bytes.{itemsBytes}
 use Rattle.list_measure.specs.Refusing.{Verdict, fine, refused, unlessItem, itemsVerdict}
+
+one-more : (n : ℕ) → 0 < n → suc (n - 1) ≡ n
+one-more n h = omega arith
 
 next-length : (ns : List ℕ) (j n : ℕ) → j < length ns → take (suc n) (drop j ns) ≡ getD ns j 0 ∷ take n (drop (j + 1) ns)
 next-length ns j n h = rw (add-one, drop-cons ns j 0)

@@ -1,15 +1,16 @@
 -- The body: what its measure says of it, the footer behind the list, and the answer of each way out of `encode`.
 -- Assumes nothing.
 use Prim.Native.Nat.{ℕ, _+_, _-_, _≤_, _<_}
-use mathlib.Core.Path.{_≡_, refl, sym, ap, _∙_}
-use mathlib.Core.Bool.{Bool, true, false, cond}
-use mathlib.Core.List.{List, _++_, append-assoc}
+use mathlib.Core.Path.{_≡_, sym, ap, _∙_}
+use mathlib.Core.Bool.{Bool}
+use mathlib.Core.List.{List}
 use native.Mathlib.Omega.{arith}
-use lib.Dec.{ltb, leb, eqb}
+use lib.Dec.{leb, eqb}
 use lib.Bits.{bitXor}
 use lib.ListN.{length, take, drop, length-append}
-use lib.Seq.{sets-eq, drop-at, take-append-seam, length-take-le}
-use borrow.Author.Tests.{eq-eqb, ne-eqb, le-leb, lt-leb, leb-true, ltb-false}
+use lib.Seq.{sets-eq, take-at}
+use borrow.Author.Tests.{eq-eqb, ne-eqb, le-leb, lt-leb, leb-true, eqb-false}
+use Rattle.refusal.proofs.First.{not-first, not-second}
 use Rattle.numbers.specs.Shortest.{shortest}
 use Rattle.words.specs.Word.{littleEndianBytes}
 use Rattle.words.specs.Write.{nextAt, placed}
@@ -17,17 +18,17 @@ use Rattle.words.proofs.Words.{length-little}
 use Rattle.crc.specs.Crc.{crcOf}
 use Rattle.log_item.specs.declared.LogItem.{LogItem}
 use Rattle.log_item.specs.Private.{Room, Stored}
-use Rattle.log_item.proofs.Stores.{stored-at, stored-then, stored-length}
+use Rattle.log_item.proofs.Stores.{stored-at, stored-stands, stored-then, stored-length}
 use Rattle.list_measure.specs.declared.Measured.{Measured}
 use Rattle.list_writer.specs.declared.Encoded.{Encoded}
 use Rattle.list_measure.specs.Bytes.{itemsBytes, listBytes}
 use Rattle.list_writer.specs.Bytes.{footed, bodyBytes}
-use Rattle.list_measure.specs.Refusing.{Verdict, fine, refused, itemsVerdict, listVerdict}
-use Rattle.list_measure.specs.Answers.{measured, measuredOf, measureOf}
+use Rattle.list_measure.specs.Refusing.{fine, itemsVerdict, listVerdict}
+use Rattle.list_measure.specs.Answers.{measureOf}
 use Rattle.list_writer.specs.Answers.{encoded, encodedIn, encodedOf, laid, MeasuredWritten}
 use Rattle.list_writer.specs.Pieces.{footerOf, footerNext, footerPlaced}
 use Rattle.list_writer.proofs.Pieces.{footer-stored}
-use Rattle.list_measure.proofs.Heads.{cond-fine}
+use Rattle.list_measure.proofs.Measuring.{sized-where, list-fine}
 use Rattle.list_writer.proofs.Writing.{Writing, writing-start, writing-end}
 
 -- ---- what a length that is not 0 tells
@@ -40,37 +41,24 @@ pub record Accepted (s : List ℕ) (checked : Bool) (xs : List LogItem) (ns : Li
 
 pub accepted : (s : List ℕ) (checked : Bool) (xs : List LogItem) (ns : List ℕ) (m : Measured) → m ≡ measureOf s checked xs ns → (m .length ≡ 0 → ⊥)
     → Accepted s checked xs ns (m .length)
-unfolding measureOf listVerdict measuredOf listBytes
-accepted s checked xs ns m e h = go (listVerdict s checked xs ns) refl e
-  where
-    n : ℕ
-    n = length (listBytes s xs ns)
-
-    at-fine : (t : ℕ) (b : Bool) → m ≡ cond b (measured 22 0 0 0) (measured 0 0 (n + 4) t) → m .length ≡ n + 4
-    at-fine t true q = absurd (h (ap (λ (x : Measured). x .length) q))
-    at-fine t false q = ap (λ (x : Measured). x .length) q
-
-    go : (v : Verdict) → listVerdict s checked xs ns ≡ v → m ≡ measuredOf v n → Accepted s checked xs ns (m .length)
-    go (refused a b) q u = absurd (h (ap (λ (x : Measured). x .length) u))
-    go (fine t) q u =
-        let k = cond-fine (ltb 256 (length xs)) 9 0 (itemsVerdict s checked xs ns 0 0 0) t q in
-        record {
-          total = t;
-          few = ltb-false 256 (length xs) (k .0);
-          told = k .1;
-          whole = omega (arith, at-fine t (ltb 4294967295 (n + 4)) u, length-append (shortest (length xs)) (itemsBytes s xs ns 0));
-        }
+unfolding measureOf listBytes
+accepted s checked xs ns m e h =
+    let k = sized-where (listVerdict s checked xs ns) (length (listBytes s xs ns)) e h in
+    let l = list-fine s checked xs ns (k .told) in
+    record {
+      total = m .total;
+      few = l .0;
+      told = l .1;
+      whole = omega (arith, k .long, length-append (shortest (length xs)) (itemsBytes s xs ns 0));
+    }
 
 -- ---- the footer
 
 -- What was stored from a place on stands there.
 stands : {out mid bs : List ℕ} {at next : ℕ} → at + length bs ≤ length out → Stored out at bs next mid → take (next - at) (drop at mid) ≡ bs
 stands {out} {mid} {bs} {at} {next} h w =
-    let z : next - at ≡ length bs = omega (arith, w .after) in
-    ap (λ (n : ℕ). take n (drop at mid)) z
-    ∙ ap (λ (l : List ℕ). take (length bs) (drop at l)) (w .stored ∙ sets-eq bs out at h ∙ append-assoc (take at out) bs (drop (at + length bs) out))
-    ∙ ap (λ (l : List ℕ). take (length bs) l) (drop-at (take at out) (bs ++ drop (at + length bs) out) at (length-take-le at out (omega arith)))
-    ∙ take-append-seam bs (drop (at + length bs) out)
+    let a = stored-stands (record { fits = h }) w in
+    rw (a .stand) (take-at bs (drop next mid) (next - at) (omega (arith, w .after)))
 
 with-footer : (signature : ℕ) {out mid later bs : List ℕ} {at next last : ℕ} → at + length bs ≤ length out → Stored out at bs next mid
     → Stored mid next (footerOf signature at next mid) last later
@@ -137,18 +125,15 @@ module _ (m : Measured) (all at : ℕ) where
     placing-fits l = rw (ne-eqb (m .length) 0 h, le-leb (at + m .length) all l)
 
 -- A length that is not 0 is the measure's, and the body fits.
-pub fits : {told m : Measured} → m ≡ told → (all at : ℕ) {r : Encoded} → r ≡ encodedIn m all at → (r .length ≡ 0 → ⊥)
+pub placing-told : {told m : Measured} → m ≡ told → (all at : ℕ) {r : Encoded} → r ≡ encodedIn m all at → (r .length ≡ 0 → ⊥)
     → (m .length ≡ 0 → ⊥) × (at + m .length ≤ all) × (r .length ≡ m .length)
-fits {told} {m} same all at {r} e h = go (eqb (m .length) 0) refl e
+placing-told {told} {m} same all at {r} e h =
+    let a = not-first (eqb (m .length) 0) e none in
+    let b = not-second (leb (at + m .length) all) (a .1) none in
+    (eqb-false (m .length) 0 (a .0), leb-true _ _ (b .0), ap (λ (x : Encoded). x .length) (b .1))
   where
-    last : (b : Bool) → leb (at + m .length) all ≡ b → r ≡ cond b (encoded 0 0 (m .length)) (encoded 21 0 0) → (at + m .length ≤ all) × (r .length ≡ m .length)
-    last true g q = (leb-true _ _ g, ap (λ (x : Encoded). x .length) q)
-    last false g q = absurd (h (ap (λ (x : Encoded). x .length) q))
-
-    go : (b : Bool) → eqb (m .length) 0 ≡ b → r ≡ cond b (encoded (m .number) (m .item) 0) (cond (leb (at + m .length) all) (encoded 0 0 (m .length)) (encoded 21 0 0))
-        → (m .length ≡ 0 → ⊥) × (at + m .length ≤ all) × (r .length ≡ m .length)
-    go true g q = absurd (h (ap (λ (x : Encoded). x .length) q))
-    go false g q = let k = last (leb (at + m .length) all) refl q in ((λ z. h (k .1 ∙ z)), k .0, k .1)
+    none : {n i : ℕ} → r ≡ encoded n i 0 → ⊥
+    none e = h (ap (λ (x : Encoded). x .length) e)
 
 -- ---- the ways out
 
@@ -157,15 +142,15 @@ module _ (e : Measured) (out : List ℕ) (at : ℕ) (bs : List ℕ) {m : Measure
   unfolding encodedOf
   answered = p ∙ ap (λ (x : Measured). encodedIn x (length out) at) same
 
-  pub none-written : r .length ≡ 0 → MeasuredWritten e bs out at r out
+  pub refused-laid : r .length ≡ 0 → MeasuredWritten e bs out at r out
   unfolding laid
-  none-written h = record { answer = answered; written = rw (eq-eqb (r .length) 0 h) }
+  refused-laid h = record { answer = answered; written = rw (eq-eqb (r .length) 0 h) }
 
-  pub all-written : {later : List ℕ} {next : ℕ} → (r .length ≡ 0 → ⊥) → length bs ≡ m .length → Stored out at bs next later
+  pub all-laid : {later : List ℕ} {next : ℕ} → (r .length ≡ 0 → ⊥) → length bs ≡ m .length → Stored out at bs next later
       → MeasuredWritten e bs out at r later
   unfolding laid
-  all-written {later} {next} h k w =
-      let fit : at + length bs ≤ length out = omega (arith, fits same (length out) at p h .1) in
+  all-laid {later} {next} h k w =
+      let fit : at + length bs ≤ length out = omega (arith, placing-told same (length out) at p h .1) in
       record {
         answer = answered;
         written = w .stored ∙ sets-eq bs out at fit ∙ (rw (ne-eqb (r .length) 0 h, le-leb (at + length bs) (length out) fit));

@@ -58,9 +58,9 @@ head-stored s x {out} {later} {at} {next} i h p =
 -- ---- the footer
 
 module _ (signature start at : ℕ) (out : List ℕ) where
-  pub footer-back : at < start → (at ≡ footerNext signature start at out) × (out ≡ footerPlaced signature start at out)
+  pub no-footer : at < start → (at ≡ footerNext signature start at out) × (out ≡ footerPlaced signature start at out)
   unfolding footerNext footerPlaced
-  footer-back h = (rw (lt-leb start at h), rw (lt-leb start at h))
+  no-footer h = (rw (lt-leb start at h), rw (lt-leb start at h))
 
   module _ (h : start ≤ at) where
     pub footer-past : length out < at → (at ≡ footerNext signature start at out) × (out ≡ footerPlaced signature start at out)

@@ -23,9 +23,9 @@ module _ (good ready : Bool) (t : Table) (start stop end : ℕ) (gate : Gate) (r
   unfolding answered
   broken g e = rw g e
 
-  pub unready : good ≡ true → ready ≡ false → r ≡ unchanged 27 (t .count) → r ≡ answered good ready t (start) (stop - start) (end - start) gate
+  pub not-ready : good ≡ true → ready ≡ false → r ≡ unchanged 27 (t .count) → r ≡ answered good ready t (start) (stop - start) (end - start) gate
   unfolding answered
-  unready g h e = rw (g, h) e
+  not-ready g h e = rw (g, h) e
 
   pub apart : good ≡ true → ready ≡ true → stop ≤ start → r ≡ unchanged 0 (t .count) → r ≡ answered good ready t (start) (stop - start) (end - start) gate
   unfolding answered

@@ -29,7 +29,7 @@ use Rattle.location_rows.specs.Words.{areRows, locationCount, rows, brok
 use Rattle.location_rows.specs.Answers.{limited, RowsRewritten}
 use Rattle.location_rows.specs.Private.{formedWords, readyWords}
 use Rattle.location_rows.proofs.Rows.{pasted}
-use Rattle.location_rows.proofs.Surveys.{located-length, unformed, unready}
+use Rattle.location_rows.proofs.Surveys.{located-length, words-unformed, words-unready}
 use Rattle.location_rows.proofs.Limits.{limit-refused, limit-none, limited-le, limited-out}
 
 -- ---- what is known of the words
@@ -88,7 +88,7 @@ module _ (words : List ℕ) (t : Table) (incoming : List ℕ) (first : ℕ) {p :
       -- a row of the table is no location's
       table-broken : areRows (locationCount words) words ≡ false → RowsRewritten words t incoming first gate a later
       table-broken h =
-          let g : good ≡ false = formed ∙ sym (unformed words refl h t) in
+          let g : good ≡ false = formed ∙ sym (words-unformed words refl h t) in
           let z = refused 26 (λ k. omega arith) (decided ∙ sym (decide.broken good isReady t (p .start) (p .end) e gate _ g refl)) in
           record { answer = rw (no-rows words h) (z .0); after = rw (no-rows words h) (z .1) }
 
@@ -103,8 +103,8 @@ module _ (words : List ℕ) (t : Table) (incoming : List ℕ) (first : ℕ) {p :
             told : (b : Bool) → wellFormed (located words) t ≡ b → RowsRewritten words t incoming first gate a later
             told true j =
                 let g : good ≡ true = good-is ∙ j in
-                let k : isReady ≡ false = taken ∙ sym (unready incoming refl i first) in
-                let z = refused 27 (λ k. omega arith) (decided ∙ sym (decide.unready good isReady t (p .start) (p .end) e gate _ g k refl)) in
+                let k : isReady ≡ false = taken ∙ sym (words-unready incoming refl i first) in
+                let z = refused 27 (λ k. omega arith) (decided ∙ sym (decide.not-ready good isReady t (p .start) (p .end) e gate _ g k refl)) in
                 record { answer = rw (are-rows words h, no-rows incoming i, j) (z .0); after = rw (are-rows words h, no-rows incoming i) (z .1) }
             told false j =
                 let g : good ≡ false = good-is ∙ j in

@@ -22,9 +22,9 @@ use Rattle.location_rows.proofs.Rows.{locations-length, location-at}
 
 -- ---- one row
 
-pub is-rewrite : (queue : ℕ) → (queue ≡ 0 → ⊥) → LogQueue.Rewrite ≡ queueOf queue
-is-rewrite zero f = absurd (f refl)
-is-rewrite (suc queue) f = refl
+pub rewrite-queue : (queue : ℕ) → (queue ≡ 0 → ⊥) → LogQueue.Rewrite ≡ queueOf queue
+rewrite-queue zero f = absurd (f refl)
+rewrite-queue (suc queue) f = refl
 
 -- a stop looks at the queue and the file number alone
 stops-same : (stop : Stop) (row : Location) → stopsAt stop row ≡ stopsAt stop (rowStart (row .queue) (row .seq))

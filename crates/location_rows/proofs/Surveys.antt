@@ -22,31 +22,31 @@ located-length words = locations-length (locationCount words) words
 
 module _ (words : List ℕ) {b : Bool} (e : b ≡ areRows (locationCount words) words) where
   module _ (f : b ≡ false) where
-    pub unformed : (t : Table) → false ≡ formedWords words t
+    pub words-unformed : (t : Table) → false ≡ formedWords words t
     unfolding formedWords
-    unformed t = rw (sym e ∙ f) refl
+    words-unformed t = rw (sym e ∙ f) refl
 
-    pub unready : (first : ℕ) → false ≡ readyWords words first
+    pub words-unready : (first : ℕ) → false ≡ readyWords words first
     unfolding readyWords
-    unready first = rw (sym e ∙ f) refl
+    words-unready first = rw (sym e ∙ f) refl
 
   module _ (f : b ≡ true) where
-    pub beyond : (t : Table) → locationCount words < t .count → false ≡ formedWords words t
+    pub words-beyond : (t : Table) → locationCount words < t .count → false ≡ formedWords words t
     unfolding formedWords wellFormed
-    beyond t l = rw (sym e ∙ f, lt-leb (t .count) (length (located words)) (omega (arith, l, located-length words))) refl
+    words-beyond t l = rw (sym e ∙ f, lt-leb (t .count) (length (located words)) (omega (arith, l, located-length words))) refl
 
-    pub formed : (t : Table) {front back : ℕ} {r : Bool} → t .count ≤ locationCount words → front ≡ 0 + runOf Stop.Append (take (t .count - 0) (drop 0 (located words)))
+    pub words-formed : (t : Table) {front back : ℕ} {r : Bool} → t .count ≤ locationCount words → front ≡ 0 + runOf Stop.Append (take (t .count - 0) (drop 0 (located words)))
         → back ≡ t .count + runOf Stop.Rewrite (take (locationCount words - t .count) (drop (t .count) (located words))) → r ≡ wellFormedBy t (locationCount words) front back
         → r ≡ formedWords words t
     unfolding formedWords
-    formed t {front} {back} {r} l e₁ e₂ e₃ =
+    words-formed t {front} {back} {r} l e₁ e₂ e₃ =
         let n : length (located words) ≡ locationCount words = located-length words in
         formed-by (located words) t (t .count) front back r (omega (arith, l, n)) e₁ (rw n e₂) (rw n e₃) ∙ (rw (sym e ∙ f) refl)
 
-    pub taken : (first : ℕ) {wrong : ℕ} {r : Bool} → wrong ≡ 0 + runOf Stop.Append (take (locationCount words - 0) (drop 0 (located words))) → r ≡ readyBy wrong (locationCount words) first
+    pub words-ready : (first : ℕ) {wrong : ℕ} {r : Bool} → wrong ≡ 0 + runOf Stop.Append (take (locationCount words - 0) (drop 0 (located words))) → r ≡ readyBy wrong (locationCount words) first
         → r ≡ readyWords words first
     unfolding readyWords
-    taken first {wrong} {r} e₁ e₂ =
+    words-ready first {wrong} {r} e₁ e₂ =
         let n : length (located words) ≡ locationCount words = located-length words in
         ready-by (located words) first wrong r (rw n e₁) (rw n e₂) ∙ (rw (sym e ∙ f) refl)
 

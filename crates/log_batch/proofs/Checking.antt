@@ -1,7 +1,7 @@
 -- What going over the items without a table comes to: a law for each way out of the loop.
 -- Assumes nothing.
-use Prim.Native.Nat.{ℕ, zero, suc, _+_, _-_, _≤_, _<_}
-use mathlib.Core.Path.{_≡_, refl, sym, ap₂, _∙_}
+use Prim.Native.Nat.{ℕ, suc, _+_, _-_, _≤_, _<_}
+use mathlib.Core.Path.{_≡_, refl, sym, ap, ap₂, _∙_}
 use mathlib.Core.List.{List, [], _++_}
 use native.Mathlib.Omega.{arith}
 use native.Mathlib.Nat.{add-zero, zero-add}
@@ -21,11 +21,11 @@ use Rattle.log_batch.specs.declared.BodyCheck.the-variants.{Accepted, Re
 use Rattle.log_batch.specs.Reading.{Answer, accepted, rejected, before, inFront, items, count, readItems}
 use Rattle.log_batch.specs.declared.PlainForm.the-variants as plain
 use Rattle.log_batch.specs.Body.{readBody}
-use Rattle.log_batch.specs.Seal.{sealedPart, sealCheck}
+use Rattle.log_batch.specs.Seal.{sealedPart}
+use Rattle.log_item.specs.declared.Passed.{Passed}
 use Rattle.log_item.specs.declared.Passed.the-variants as passed
 use Rattle.log_batch.specs.Answers.{checkOf, plainBody}
-use Rattle.log_batch.proofs.Sealing.{seal-long}
-use Rattle.log_batch.proofs.Sealed.{body-refused}
+use Rattle.log_batch.proofs.Bodies.{parts}
 
 -- ---- the item count
 
@@ -71,28 +71,19 @@ module _ (form : Form) (s : List ℕ) where
       let all : count - 0 ≡ count = omega arith in
       record { few = omega arith; comes = rw all (held-none (items form s count 0 0 0 start)) }
 
-  module _ (k i e t p : ℕ) where
-    one-more : {u m q : ℕ} → passed.Done q u m ≡ itemPassed (passItem form s e t p) → heldAfter i e (items form s (suc k) i e t p) ≡ heldAfter (i + 1) m (items form s k (i + 1) m u q)
-    unfolding items passItem
-    one-more {u} {m} {q} h = go (oneItem form s e t p) h
-      where
-        go : (g : Got Read) → passed.Done q u m ≡ itemPassed (bind {A = Read} {B = Counted} g (λ r. done (record { item = r .item; total = r .total; used = e + length (r .rows) })))
-            → heldAfter i e (inFront i g (λ r z. items form s k (i + 1) (e + length (r .rows)) (r .total) z)) ≡ heldAfter (i + 1) m (items form s k (i + 1) m u q)
-        go (got r z) f =
-            let place : z ≡ q = cc in
-            let total : r .total ≡ u = cc in
-            let used : e + length (r .rows) ≡ m = cc in
-            held-before i e (r .item) (r .rows) (items form s k (i + 1) (e + length (r .rows)) (r .total) z) ∙ rw (place, total, used)
-        go (refused r) f = let z : _≡_ {A = ℕ} 0 1 = cc in absurd (omega arith)
+  -- what a body holds where i items and one that was gone over stand before k others
+  abbrev heldPast : ℕ → ℕ → Passed → BodyCheck
+  heldPast k i (passed.Done q u m) = heldAfter (i + 1) m (items form s k (i + 1) m u q)
+  heldPast k i (passed.Refused r) = Refused (record { number = r; item = i })
 
-    stop : {r : ℕ} → passed.Refused r ≡ itemPassed (passItem form s e t p) → heldAfter i e (items form s (suc k) i e t p) ≡ Refused (record { number = r; item = i })
-    unfolding items passItem
-    stop {r} h = go (oneItem form s e t p) h
-      where
-        go : (g : Got Read) → passed.Refused r ≡ itemPassed (bind {A = Read} {B = Counted} g (λ r. done (record { item = r .item; total = r .total; used = e + length (r .rows) })))
-            → heldAfter i e (inFront i g (λ r z. items form s k (i + 1) (e + length (r .rows)) (r .total) z)) ≡ Refused (record { number = r; item = i })
-        go (got x z) f = let z : _≡_ {A = ℕ} 0 1 = cc in absurd (omega arith)
-        go (refused x) f = let y : x ≡ r = cc in rw y
+  held-past : (k i e t p : ℕ) → heldPast k i (itemPassed (passItem form s e t p)) ≡ heldAfter i e (items form s (suc k) i e t p)
+  unfolding items passItem
+  held-past k i e t p = go (oneItem form s e t p)
+    where
+      go : (g : Got Read) → heldPast k i (itemPassed (bind {A = Read} {B = Counted} g (λ r. done (record { item = r .item; total = r .total; used = e + length (r .rows) }))))
+          ≡ heldAfter i e (inFront i g (λ r z. items form s k (i + 1) (e + length (r .rows)) (r .total) z))
+      go (got r z) = sym (held-before i e (r .item) (r .rows) (items form s k (i + 1) (e + length (r .rows)) (r .total) z))
+      go (refused r) = refl
 
   items-none : (i e t p : ℕ) → items form s 0 i e t p ≡ accepted [] [] t p
   unfolding items
@@ -103,11 +94,14 @@ module _ (form : Form) (s : List ℕ) where
       rest : count - i ≡ suc (count - (i + 1))
       rest = omega arith
 
-      pub left-more : {u m q : ℕ} → passed.Done q u m ≡ itemPassed (passItem form s used total at) → ItemsLeft count start (i + 1) q u m
-      left-more h = record { few = omega arith; comes = sym (one-more (count - (i + 1)) i used total at h) ∙ rw (← rest) (l .comes) }
+      past : {x : Passed} → x ≡ itemPassed (passItem form s used total at) → heldPast (count - (i + 1)) i x ≡ checkOf (items form s count 0 0 0 start)
+      past h = ap (heldPast (count - (i + 1)) i) h ∙ held-past (count - (i + 1)) i used total at ∙ rw (← rest) (l .comes)
+
+      pub left-next : {u m q : ℕ} → passed.Done q u m ≡ itemPassed (passItem form s used total at) → ItemsLeft count start (i + 1) q u m
+      left-next h = record { few = omega arith; comes = past h }
 
       pub left-refused : {r : ℕ} → passed.Refused r ≡ itemPassed (passItem form s used total at) → Refused (record { number = r; item = i }) ≡ checkOf (items form s count 0 0 0 start)
-      left-refused h = sym (stop (count - (i + 1)) i used total at h) ∙ rw (← rest) (l .comes)
+      left-refused h = past h
 
     pub left-end : count ≤ i → Accepted count used total at ≡ checkOf (items form s count 0 0 0 start)
     left-end h = sym (ending (count - i) none) ∙ l .comes
@@ -123,13 +117,13 @@ module _ (form : Form) (s : List ℕ) where
 
 -- ---- what a check tells of the reading
 
-pub told : {m n u q : ℕ} (a : Answer) → Accepted m n u q ≡ checkOf a
+pub acceptance-told : {m n u q : ℕ} (a : Answer) → Accepted m n u q ≡ checkOf a
     → (xs : List LogItem) × (rows : List EntryIndex) × (a ≡ accepted xs rows u q) × (length xs ≡ m) × (length rows ≡ n)
-told {u = u} {q = q} (accepted xs rows v z) e =
+acceptance-told {u = u} {q = q} (accepted xs rows v z) e =
     let total : v ≡ u = cc in
     let place : z ≡ q = cc in
     (xs, rows, rw (total, place), cc, cc)
-told (rejected r i) e = let z : _≡_ {A = ℕ} 0 1 = cc in absurd (omega arith)
+acceptance-told (rejected r i) e = let z : _≡_ {A = ℕ} 0 1 = cc in absurd (omega arith)
 
 pub refusal-told : {x : Refusal} (a : Answer) → Refused x ≡ checkOf a → a ≡ rejected (x .number) (x .item)
 refusal-told (accepted xs rows u q) e = let z : _≡_ {A = ℕ} 0 1 = cc in absurd (omega arith)
@@ -145,19 +139,12 @@ module _ (body : List ℕ) (signature : ℕ) where
   module _ {m n u q : ℕ} (e : Accepted m n u q ≡ checkOf (readBody body signature)) where
     pub plain-yes : {k l v z : ℕ} → Accepted k l v z ≡ checkOf (readItems Plain (sealedPart body)) → plain.Yes ≡ plainBody body signature
     unfolding plainBody
-    plain-yes f = rw (told (readBody body signature) e .2, told (readItems Plain (sealedPart body)) f .2)
+    plain-yes f = rw (acceptance-told (readBody body signature) e .2, acceptance-told (readItems Plain (sealedPart body)) f .2)
 
     pub plain-no : {r : Refusal} → Refused r ≡ checkOf (readItems Plain (sealedPart body)) → plain.No ≡ plainBody body signature
     unfolding plainBody
-    plain-no f = rw (told (readBody body signature) e .2, refusal-told (readItems Plain (sealedPart body)) f)
+    plain-no f = rw (acceptance-told (readBody body signature) e .2, refusal-told (readItems Plain (sealedPart body)) f)
 
     -- an accepted body has its footer
     pub accepted-long : 4 < length body
-    accepted-long = go (sealCheck body signature) refl
-      where
-        go : (k : ℕ) → k ≡ sealCheck body signature → 4 < length body
-        go zero h = seal-long body signature (sym h)
-        go (suc k) h =
-            let some : suc k ≡ 0 → ⊥ = λ z. omega arith in
-            let f = rw (body-refused body signature h some) at e in
-            let z : _≡_ {A = ℕ} 0 1 = cc in absurd (omega arith)
+    accepted-long = parts body signature (acceptance-told (readBody body signature) e .2) .0 .long

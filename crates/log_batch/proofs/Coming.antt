@@ -6,7 +6,7 @@ use mathlib.Core.List.{List, [], _∷_, _++_, append-assoc}
 use native.Mathlib.Omega.{arith}
 use lib.ListN.{length}
 use Rattle.log_item.specs.Got.{Got, got, refused, done, bind}
-use Rattle.log_item.specs.Entries.{entriesOf}
+use Rattle.log_item.specs.Entries.{entriesOf, tailRow}
 use Rattle.log_item.specs.Reading.{head, tail, tails, oneItem}
 use Rattle.log_item.specs.declared.Form.the-variants.{Any}
 use Rattle.log_item.specs.declared.LogItem.{LogItem}
@@ -23,10 +23,6 @@ prepend xs rows (rejected r i) = rejected r i
 abbrev pub behind : ℕ → Got (List EntryIndex × ℕ) → (List EntryIndex → ℕ → ℕ → Answer) → Answer
 behind i (got r q) f = prepend [] (r .0) (f (r .0) (r .1) q)
 behind i (refused n) f = rejected n i
-
--- the row of a tail w, with the total t before it
-abbrev pub rowOf : ℕ → ℕ → ℕ → EntryIndex
-rowOf index t w = record { index = index; «entry_offset» = t; «entry_len» = w - t }
 
 -- ---- what has something in front
 
@@ -71,13 +67,13 @@ module _ (s : List ℕ) (k : ℕ) where
 
   module _ (i j p t : ℕ) where
     pub row-suc : (n index other w q : ℕ) → tail Any s t p ≡ got w q → (0 < n → index + 1 ≡ other)
-        → rest i j p t (suc n) index ≡ prepend [] (rowOf index t w ∷ []) (rest i (j + 1) q w n other)
+        → rest i j p t (suc n) index ≡ prepend [] (tailRow index t w ∷ []) (rest i (j + 1) q w n other)
     unfolding rest tails
     row-suc n index other w q e h =
         rw e
-        (behind-row (i - 1) (rowOf index t w) (tails Any s n (index + 1) w q) _ (λ rows u z. items Any s (k - i) i (j + 1 + length rows) u z)
-        (λ rows u z. let one : j + length (rowOf index t w ∷ rows) ≡ j + 1 + length rows = omega arith in ap (λ (m : ℕ). items Any s (k - i) i m u z) one)
-        ∙ ap (λ g. prepend [] (rowOf index t w ∷ []) (behind (i - 1) g (λ rows u z. items Any s (k - i) i (j + 1 + length rows) u z)))
+        (behind-row (i - 1) (tailRow index t w) (tails Any s n (index + 1) w q) _ (λ rows u z. items Any s (k - i) i (j + 1 + length rows) u z)
+        (λ rows u z. let one : j + length (tailRow index t w ∷ rows) ≡ j + 1 + length rows = omega arith in ap (λ (m : ℕ). items Any s (k - i) i m u z) one)
+        ∙ ap (λ g. prepend [] (tailRow index t w ∷ []) (behind (i - 1) g (λ rows u z. items Any s (k - i) i (j + 1 + length rows) u z)))
         (same-tails n q w (index + 1) other h))
 
     pub bad-suc : (n index r : ℕ) → tail Any s t p ≡ refused r → rest i j p t (suc n) index ≡ rejected r (i - 1)

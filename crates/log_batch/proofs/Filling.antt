@@ -14,7 +14,7 @@ use Rattle.numbers.specs.declared.NumberRead.{NumberRead}
 use Rattle.numbers.specs.declared.NumberRead.the-variants.{Done, Eof, Overflow}
 use Rattle.numbers.proofs.NumberRead.{the-type}
 use Rattle.log_item.specs.Got.{got, refused}
-use Rattle.log_item.specs.Entries.{entriesOf}
+use Rattle.log_item.specs.Entries.{entriesOf, tailRow}
 use Rattle.log_item.specs.Pieces.{numberGot}
 use Rattle.log_item.proofs.Smallest.{number-any}
 use Rattle.log_item.specs.Reading.{head, tail, tails}
@@ -27,7 +27,7 @@ use Rattle.log_batch.specs.Reading.{accepted, rejected, items, readItems
 use Rattle.log_batch.proofs.Checking.{count-good}
 use Rattle.log_item.specs.Blank.{blankItem, blankEntry}
 use Rattle.log_batch.proofs.Rows.{FilledRows, rows-none, rows-set, rows-take}
-use Rattle.log_batch.proofs.Coming.{prepend, behind, rowOf, rest, prepend-none, prepend-item, prepend-row, row-suc, bad-suc, rest-zero, item-suc, no-item}
+use Rattle.log_batch.proofs.Coming.{prepend, behind, rest, prepend-none, prepend-item, prepend-row, row-suc, bad-suc, rest-zero, item-suc, no-item}
 
 -- k items are wanted, i are in the table xs, and j rows in the table rows; n tails are left of the item before, the first of them with the
 -- index and the total t before it. What is in the tables and what is still to come from p on are the whole answer.
@@ -83,7 +83,7 @@ module _ {s : List ℕ} {k : ℕ} {xs : List LogItem} {rows : List EntryIndex} {
 
     -- A tail was read: its row is stored.
     pub next-row : {w q other : ℕ} → tail Any s t p ≡ got w q → other ≡ (index + 1) % 2 ^ 64
-        → Filling s k xs (set rows j (rowOf index t w)) none i (j + 1) q w (n - 1) other
+        → Filling s k xs (set rows j (tailRow index t w)) none i (j + 1) q w (n - 1) other
     next-row {w} {q} {other} e h =
         let fits = f .wraps some in
         let below : j < 1024 = omega (arith, f .room) in
@@ -95,18 +95,18 @@ module _ {s : List ℕ} {k : ℕ} {xs : List LogItem} {rows : List EntryIndex} {
           low = tail-known Any s t p e .1;
           wraps = λ more. omega arith;
           filled-items = f .filled-items;
-          filled-rows = rows-set (f .filled-rows) (rowOf index t w) below;
+          filled-rows = rows-set (f .filled-rows) (tailRow index t w) below;
           unrefused = f .unrefused;
           so-far =
-              rw (rows-take (f .filled-rows) (rowOf index t w) below)
-              (sym (prepend-row (take i xs) (take j rows) (rowOf index t w) (rest s k i (j + 1) q w (n - 1) other))
+              rw (rows-take (f .filled-rows) (tailRow index t w) below)
+              (sym (prepend-row (take i xs) (take j rows) (tailRow index t w) (rest s k i (j + 1) q w (n - 1) other))
               ∙ ap (prepend (take i xs) (take j rows)) (sym (one-tail ∙ row-suc s k i j p t (n - 1) index other w q e (λ more. omega arith)))
               ∙ f .so-far);
         }
 
     -- A tail was refused: in the item before.
-    pub row-refused : {r : ℕ} → tail Any s t p ≡ refused r → readItems Any s ≡ rejected r (i - 1)
-    row-refused {r} e = sym (f .so-far) ∙ ap (prepend (take i xs) (take j rows)) (one-tail ∙ bad-suc s k i j p t (n - 1) index r e)
+    pub filling-row-refused : {r : ℕ} → tail Any s t p ≡ refused r → readItems Any s ≡ rejected r (i - 1)
+    filling-row-refused {r} e = sym (f .so-far) ∙ ap (prepend (take i xs) (take j rows)) (one-tail ∙ bad-suc s k i j p t (n - 1) index r e)
 
   module _ (done : n ≤ 0) where
     no-tail : rest s k i j p t n index ≡ items Any s (k - i) i j t p
@@ -162,5 +162,5 @@ module _ {s : List ℕ} {k : ℕ} {xs : List LogItem} {rows : List EntryIndex} {
           }
 
       -- A head was refused.
-      pub item-refused : {r : ℕ} → head Any s j p ≡ refused r → readItems Any s ≡ rejected r i
-      item-refused e = sym (f .so-far) ∙ ap (prepend (take i xs) (take j rows)) (one-item ∙ no-item s k i j p t (k - (i + 1)) e)
+      pub filling-item-refused : {r : ℕ} → head Any s j p ≡ refused r → readItems Any s ≡ rejected r i
+      filling-item-refused e = sym (f .so-far) ∙ ap (prepend (take i xs) (take j rows)) (one-item ∙ no-item s k i j p t (k - (i + 1)) e)

@@ -5,15 +5,15 @@ use mathlib.Core.Path.{_≡_, refl, sym, ap, _∙_}
 use mathlib.Core.List.{List, _++_}
 use native.Mathlib.Omega.{arith}
 use lib.ListN.{length}
-use lib.Seq.{sets-eq}
 use borrow.Author.Tests.{eq-eqb, ne-eqb, le-leb, lt-leb}
 use Rattle.words.specs.Word.{bigEndianBytes, littleEndianBytes}
 use Rattle.words.specs.Write.{wroteAt, placed}
 use Rattle.words.specs.declared.Wrote.{Wrote}
 use Rattle.words.proofs.Words.{length-big, length-little}
+use Rattle.words.proofs.Writing.{room-for}
 use Rattle.crc.specs.Crc.{crcOf}
 use Rattle.log_item.specs.Private.{Room, Stored}
-use Rattle.log_item.proofs.Stores.{stored-then, stored-length, stored-same}
+use Rattle.log_item.proofs.Stores.{stored-then, stored-length, stored-same, stored-placed}
 use Rattle.list_measure.specs.declared.Measured.{Measured}
 use Rattle.list_writer.specs.declared.Encoded.{Encoded}
 use Rattle.list_writer.specs.Answers.{encoded, laid}
@@ -21,10 +21,6 @@ use Rattle.log_batch.specs.Front.{blockBytes, bodyOffset, headerBytes, f
 use Rattle.log_batch.proofs.Planning.{empty-block, filled-block, block-empty, block-filled, block-small, front-length, planned}
 
 -- ---- header and block
-
-stores : {out later : List ℕ} {at n : ℕ} {bs : List ℕ} {r : Wrote} → at + length bs ≤ length out → (r ≡ wroteAt out at bs) × (later ≡ placed out at bs)
-    → n ≡ at + length bs → Stored out at bs n later
-stores {out} {later} {at} {n} {bs} {r} h p e = record { after = e; stored = (simp (le-leb _ _ h) at (p .1)) ∙ sym (sets-eq bs out at h) }
 
 module _ (content out : List ℕ) (len : ℕ) (room : Room out 0 (frontBytes len content)) {offset : ℕ} (there : offset ≡ bodyOffset content) {a b : List ℕ}
     {p q : Wrote} (first : (p ≡ wroteAt out 0 (bigEndianBytes 8 (len * 256))) × (a ≡ placed out 0 (bigEndianBytes 8 (len * 256))))
@@ -36,15 +32,16 @@ module _ (content out : List ℕ) (len : ℕ) (room : Room out 0 (frontBytes len
   unfolding headerBytes
   header-stored =
       let one : Stored out 0 (bigEndianBytes 8 (len * 256)) 8 a =
-      stores (omega (arith, enough, length-big 8 (len * 256))) first (omega (arith, length-big 8 (len * 256))) in
-      stored-then one (stores (omega (arith, enough, length-big 8 offset, stored-length one)) second (omega (arith, length-big 8 offset)))
+      stored-placed (record { fits = omega (arith, enough, length-big 8 (len * 256)) }) (omega (arith, length-big 8 (len * 256))) (first .1) in
+      stored-then one
+      (stored-placed (record { fits = omega (arith, enough, length-big 8 offset, stored-length one) }) (omega (arith, length-big 8 offset)) (second .1))
 
   with-block : {later : List ℕ} → Stored b 16 (blockBytes content) offset later → Stored out 0 (frontBytes len content) offset later
   unfolding frontBytes
   with-block w = stored-same (ap (λ (n : ℕ). headerBytes len n ++ blockBytes content) (sym there)) (stored-then header-stored w)
 
   at-start : {later : List ℕ} → Stored out 0 (frontBytes len content) offset later → later ≡ placed out 0 (frontBytes len content)
-  at-start w = w .stored ∙ sets-eq (frontBytes len content) out 0 (room .fits) ∙ (rw (le-leb (0 + length (frontBytes len content)) (length out) (room .fits)))
+  at-start {later} w = room-for out 0 (frontBytes len content) later offset (room .fits) (w .stored, w .after) .1
 
   pub front-empty : length content ≡ 0 → b ≡ placed out 0 (frontBytes len content)
   front-empty h =
@@ -56,9 +53,9 @@ module _ (content out : List ℕ) (len : ℕ) (room : Room out 0 (frontBytes len
   front-filled h {d} {later} {u} {v} {c} third k fourth =
       let n = block-filled content h in
       let l = stored-length header-stored in
-      let one : Stored b 16 content (16 + length content) d = stores (omega (arith, enough, n, l)) third refl in
+      let one : Stored b 16 content (16 + length content) d = stored-placed (record { fits = omega (arith, enough, n, l) }) refl (third .1) in
       let two : Stored d (16 + length content) (littleEndianBytes 4 c) offset later =
-      stores (omega (arith, enough, n, l, stored-length one, length-little 4 c)) fourth (omega (arith, n, there, length-little 4 c)) in
+      stored-placed (record { fits = omega (arith, enough, n, l, stored-length one, length-little 4 c) }) (omega (arith, n, there, length-little 4 c)) (fourth .1) in
       let whole : blockBytes content ≡ content ++ littleEndianBytes 4 c = rw k (filled-block content h) in
       at-start (with-block (stored-same whole (stored-then one two)))
 
@@ -110,10 +107,4 @@ module _ {m : Measured} {items : ℕ} {content out : List ℕ} {r : Encoded} {mi
           let k = planned m items content (length out) begun-told h in
           let long = front-length (r .length) content in
           let fit : 0 + length (frontBytes (r .length) content) ≤ length out = omega (arith, k .size, k .fits) in
-          record {
-            after = omega (arith, k .size);
-            stored =
-                begun .front
-                ∙ (rw (ne-eqb (r .length) 0 h, le-leb (0 + length (frontBytes (r .length) content)) (length out) fit))
-                ∙ sym (sets-eq (frontBytes (r .length) content) out 0 fit);
-          }
+          stored-placed (record { fits = fit }) (omega (arith, k .size)) (begun .front ∙ (rw (ne-eqb (r .length) 0 h)))

@@ -1,14 +1,14 @@
 -- What is written is spelled, in shortest numbers, and so it is read back.
 -- Assumes nothing.
 use Prim.Native.Nat.{ℕ, zero, suc, _+_, _-_, _≤_, _<_, _^_}
-use mathlib.Core.Path.{_≡_, refl, sym, ap, _∙_}
+use mathlib.Core.Path.{_≡_, refl, ap, _∙_}
 use mathlib.Core.Bool.{true, false, cond, and-eq-true-iff}
 use mathlib.Core.List.{List, [], _∷_, _++_, map, append-assoc}
 use native.Mathlib.Omega.{arith}
-use lib.ListN.{length, take, drop, length-take}
-use lib.Seq.{take-at, drop-append-seam, drop-append-add}
+use lib.ListN.{length, drop, length-take}
+use lib.Seq.{take-at}
 use lib.Dec.{ltb, leb, lit<}
-use borrow.Author.Tests.{ltb-false, leb-true, le-leb}
+use borrow.Author.Tests.{ltb-false, leb-true}
 use Rattle.numbers.specs.Shortest.{shortest}
 use Rattle.words.specs.Write.{placed}
 use Rattle.log_item.specs.Got.{got}
@@ -17,10 +17,11 @@ use Rattle.log_item.specs.Each.{Each, none, one}
 use Rattle.log_item.specs.Limits.{RowFits}
 use Rattle.log_item.specs.Spelling.{NumberIn, Spanned, spanned, Contents, no-entries, entries, clean, compact, put, delete, Tails, no-more, next, OneItem, item}
 use Rattle.log_item.specs.Place.{At}
+use Rattle.log_item.specs.Private.{Room}
 use Rattle.log_item.specs.Prefix.{bytesOf, inside}
 use Rattle.log_item.specs.Reading.{oneItem}
 use Rattle.log_item.specs.declared.Form.{Form}
-use Rattle.log_item.specs.declared.Form.the-variants.{Any, Plain}
+use Rattle.log_item.specs.declared.Form.the-variants.{Plain}
 use Rattle.log_item.specs.declared.Span.{Span}
 use Rattle.log_item.specs.declared.Command.{Command}
 use Rattle.log_item.specs.declared.Command.the-variants.{Clean, Compact}
@@ -31,15 +32,16 @@ use Rattle.log_item.specs.declared.LogItemContent.the-variants as contents
 use Rattle.log_item.specs.declared.LogItem.{LogItem}
 use Rattle.log_item.specs.declared.EntryIndex.{EntryIndex}
 use Rattle.log_item.proofs.Place.{cut}
-use Rattle.log_item.proofs.Forms.{form-any}
+use Rattle.log_item.proofs.Forms.{in-form}
 use Rattle.log_item.proofs.Complete.{complete-item}
 use Rattle.log_item.specs.Bytes.{spanBytes, commandBytes, opBytes, entriesBytes, contentBytes, headBytes, tailsBytes}
 use Rattle.log_item.specs.Refusing.{opInside, contentInside, contentRefusal}
-use Rattle.refusal.specs.First.{firstOf}
+use Rattle.refusal.proofs.First.{neither-refused, untaken, taken}
 use Rattle.log_item.specs.Written.{sumOf, rowLengths, itemBytes, tailRefusal, itemRefusal}
 use Rattle.log_item.specs.Relocated.{spanAt, keyAt, stated, contentAt, itemAt, rowsFrom, itemRows, spansOf, numbersOf, Small}
 use Rattle.log_item.proofs.Lengths.{part-length, span-length}
-use Rattle.log_item.proofs.Refusals.{untaken, taken, content-inside, content-allowed}
+use Rattle.log_item.proofs.Refusals.{content-inside, content-allowed}
+use Rattle.log_item.proofs.Stores.{stored-placed, stored-stands}
 use Rattle.log_item.proofs.Tails.{sum-rises}
 
 -- ---- pieces
@@ -121,22 +123,6 @@ unfolding rowsFrom
 rows-from-length i t [] = refl
 rows-from-length i t (n ∷ lengths) = ap suc (rows-from-length (i + 1) (t + n) lengths)
 
-in-form : (form : Form) {x : LogItem} {rows : List EntryIndex} {t u p : ℕ} {bytes : List ℕ} → OneItem (NumberIn Plain) x rows t u p bytes
-    → OneItem (NumberIn form) x rows t u p bytes
-in-form Any h = form-any h
-in-form Plain h = h
-
--- Bytes that are placed stand there.
-pub placed-at : (out : List ℕ) (at : ℕ) (bs : List ℕ) → at + length bs ≤ length out → At (placed out at bs) at (at + length bs) bs
-placed-at out at bs h =
-    let e : length (take at out) ≡ at = length-take at out ∙ omega arith in
-    let tail : List ℕ = drop (at + length bs) out in
-    let all : List ℕ = take at out ++ (bs ++ tail) in
-    let first : drop at all ≡ bs ++ tail = ap (λ (k : ℕ). drop k all) (sym e) ∙ drop-append-seam (take at out) (bs ++ tail) in
-    let second : drop (at + length bs) all ≡ tail =
-    ap (λ (k : ℕ). drop (k + length bs) all) (sym e) ∙ drop-append-add (take at out) (bs ++ tail) (length bs) ∙ drop-append-seam bs tail in
-    rw (le-leb _ _ h, append-assoc (take at out) bs tail) (record { stand = first ∙ ap (λ (l : List ℕ). bs ++ l) (sym second); ends = refl })
-
 module _ (s : List ℕ) {b : List ℕ} where
   span-kept : {p q : ℕ} (k : Span) → inside s k ≡ true → At b p q (spanBytes s k) → bytesOf b (spanAt p k) ≡ bytesOf s k
   unfolding spanBytes
@@ -208,12 +194,9 @@ module _ (s : List ℕ) (x : LogItem) (lengths : List ℕ) (t : ℕ) (w : Writab
       ≡ got (record { item = itemAt at x; rows = itemRows x lengths t; total = sumOf t (rowLengths x lengths) }) (at + length (itemBytes s x lengths t)))
       × (map (bytesOf (placed out at (itemBytes s x lengths t))) (spansOf (itemAt at x .content)) ≡ map (bytesOf s) (spansOf (x .content)))
   read-written-item form e out at room few last =
-      let f = placed-at out at (itemBytes s x lengths t) room in
+      let here : Room out at (itemBytes s x lengths t) = record { fits = room } in
+      let f = stored-stands here (stored-placed here refl refl) in
       (read-item-at form e f few last, spans-kept f)
-
-pub neither-refused : (n r : ℕ) → firstOf n r ≡ 0 → (n ≡ 0) × (r ≡ 0)
-neither-refused zero r h = (refl, h)
-neither-refused (suc n) r h = absurd (omega arith)
 
 -- The first index is among the numbers of a content.
 pub first-small : (k : LogItemContent) → Small (numbersOf k) → entriesOf k .«first_index» < 2 ^ 64

@@ -8,7 +8,6 @@ pub mod Filling
 pub mod Tables
 pub mod ItemRows
 pub mod ItemWritten
-pub mod Encoding
 pub mod ListWritten
 pub mod Accepts
 pub mod Listing
@@ -24,6 +23,5 @@ pub mod Frames
 pub mod Framing
 pub mod Determined
 pub mod Again
-pub mod Refusing
 pub mod Whole
 pub mod Theorems

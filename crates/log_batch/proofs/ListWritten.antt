@@ -3,13 +3,15 @@
 -- Assumes nothing.
 use Prim.Native.Nat.{ℕ, zero, suc, _+_, _≤_, _<_}
 use mathlib.Core.Path.{_≡_, refl, sym, ap, _∙_}
+use mathlib.Core.Logic.{_⊎_, inl, inr}
 use mathlib.Core.Bool.{Bool, true, false, cond}
-use mathlib.Core.List.{List, [], _∷_}
+use mathlib.Core.List.{List, [], _∷_, _++_}
 use native.Mathlib.Omega.{arith}
 use lib.Dec.{ltb, leb}
-use lib.ListN.{length, drop}
-use borrow.Author.Tests.{eq-eqb, ne-eqb, le-leb, leb-true, ltb-false}
+use lib.ListN.{length, take, drop}
+use borrow.Author.Tests.{ne-eqb, le-leb, leb-true, leb-false, ltb-false}
 use Rattle.refusal.specs.First.{firstOf}
+use Rattle.refusal.proofs.First.{neither-refused, untaken}
 use Rattle.log_item.specs.Entries.{entriesOf}
 use Rattle.log_item.specs.declared.LogItem.{LogItem}
 use Rattle.log_item.specs.Refusing.{contentRefusal}
@@ -19,13 +21,11 @@ use Rattle.list_writer.specs.declared.Encoded.{Encoded}
 use Rattle.list_measure.specs.Bytes.{listBytes}
 use Rattle.list_writer.specs.Bytes.{bodyBytes}
 use Rattle.list_measure.specs.Refusing.{Verdict, fine, refused, unlessItem, itemsVerdict, listVerdict}
-use Rattle.list_measure.specs.Answers.{measured, measuredOf, measureOf}
-use Rattle.list_writer.specs.Answers.{encoded, encodedOf, laid, MeasuredWritten}
-use Rattle.log_item.proofs.Refusals.{untaken}
+use Rattle.list_measure.specs.Answers.{measureOf}
+use Rattle.list_writer.specs.Answers.{encoded, encodedIn, encodedOf, laid, MeasuredWritten}
 use Rattle.list_measure.proofs.Heads.{unless-fine}
-use Rattle.list_writer.proofs.Bodies.{accepted, body-length}
-use Rattle.log_batch.proofs.Encoding.{Encodes, writes, leaves}
-use Rattle.log_batch.proofs.ItemWritten.{neither-refused}
+use Rattle.list_measure.proofs.Measuring.{HasLength, Measures, sized, unsized, measures}
+use Rattle.list_writer.proofs.Bodies.{accepted, body-length, placing-refused, placing-21, placing-fits}
 
 -- ---- items
 
@@ -63,63 +63,47 @@ list-number : (s : List ℕ) (checked : Bool) (xs : List LogItem) (ns : List ℕ
 unfolding listVerdict
 list-number s checked xs ns n i e = first (ltb 256 (length xs)) 9 0 _ n i (omega arith) (λ h. items-number s checked xs ns 0 0 0 n i h) e
 
--- A measure either refuses, with length 0, or does not, with another.
-pub data Measures (m : Measured) : Type 0 where
-  refuses : 0 < m .number → m .length ≡ 0 → Measures m
-  accepts : m .number ≡ 0 → 0 < m .length → Measures m
-
-pub measures : (s : List ℕ) (checked : Bool) (xs : List LogItem) (ns : List ℕ) → Measures (measureOf s checked xs ns)
-unfolding measureOf measuredOf
-measures s checked xs ns = go (listVerdict s checked xs ns) refl
-  where
-    n : ℕ
-    n = length (listBytes s xs ns)
-
-    at-fine : (t : ℕ) (b : Bool) → Measures (cond b (measured 22 0 0 0) (measured 0 0 (n + 4) t))
-    at-fine t true = refuses (omega arith) refl
-    at-fine t false = accepts refl (omega arith)
-
-    go : (v : Verdict) → listVerdict s checked xs ns ≡ v → Measures (measuredOf v n)
-    go (refused a b) e = refuses (list-number s checked xs ns a b e) refl
-    go (fine t) e = at-fine t (ltb 4294967295 (n + 4))
-
 -- ---- what an answer of `encode` tells
 
-pub encodes : (s : List ℕ) (checked : Bool) (xs : List LogItem) (ns : List ℕ) (signature : ℕ) (out : List ℕ) (at : ℕ) {r : Encoded} {later : List ℕ}
-    → MeasuredWritten (measureOf s checked xs ns) (bodyBytes s xs ns signature) out at r later → Encodes s checked xs ns signature out at r later
-unfolding encodedOf laid
-encodes s checked xs ns signature out at {r} {later} w = go (measureOf s checked xs ns) refl (measures s checked xs ns)
-  where
-    body : List ℕ
-    body = bodyBytes s xs ns signature
+module _ (s : List ℕ) (checked : Bool) (xs : List LogItem) (ns : List ℕ) (signature : ℕ) (out : List ℕ) (at : ℕ) where
+  -- The body stands at the place and all else is as it was, or it is refused and nothing is touched.
+  pub data Encodes (r : Encoded) (later : List ℕ) : Type 0 where
+    writes : {total : ℕ} → r .number ≡ 0 → listVerdict s checked xs ns ≡ fine total → r .length ≡ length (bodyBytes s xs ns signature)
+        → later ≡ take at out ++ bodyBytes s xs ns signature ++ drop (at + length (bodyBytes s xs ns signature)) out → Encodes r later
+    leaves : 0 < r .number → later ≡ out → Encodes r later
 
-    room : (m : Measured) → m ≡ measureOf s checked xs ns → 0 < m .length → (b : Bool) → leb (at + m .length) (length out) ≡ b
-        → r ≡ cond b (encoded 0 0 (m .length)) (encoded 21 0 0) → Encodes s checked xs ns signature out at r later
-    room m e p true h k =
-        let a = accepted s checked xs ns m e (λ z. omega arith) in
-        let l : length body ≡ m .length = body-length signature a in
-        let fit : at + length body ≤ length out = omega (arith, leb-true (at + m .length) (length out) h) in
-        let long : r .length ≡ m .length = ap (λ (x : Encoded). x .length) k in
-        let some : r .length ≡ 0 → ⊥ = λ z. omega arith in
-        writes (ap (λ (x : Encoded). x .number) k) (omega arith)
-        (record {
-          total = a .total;
-          few = a .few;
-          told = a .told;
-          whole = long ∙ sym l;
-          fits = fit;
-          bytes = w .written ∙ (rw (ne-eqb (r .length) 0 some, le-leb (at + length body) (length out) fit));
-        })
-    room m e p false h k =
-        leaves (omega (arith, ap (λ (x : Encoded). x .number) k)) (ap (λ (x : Encoded). x .length) k)
-        (w .written ∙ (rw (eq-eqb (r .length) 0 (ap (λ (x : Encoded). x .length) k))))
+  pub encodes : {r : Encoded} {later : List ℕ} → MeasuredWritten (measureOf s checked xs ns) (bodyBytes s xs ns signature) out at r later → Encodes r later
+  unfolding measureOf encodedOf laid
+  encodes {r} {later} w = go (measures v n refl)
+    where
+      v : Verdict
+      v = listVerdict s checked xs ns
 
-    go : (m : Measured) → measureOf s checked xs ns ≡ m → Measures m → Encodes s checked xs ns signature out at r later
-    go m e (refuses p q) =
-        let k : r ≡ encoded (m .number) (m .item) 0 = w .answer ∙ (rw (e, eq-eqb (m .length) 0 q)) in
-        let z : r .length ≡ 0 = ap (λ (x : Encoded). x .length) k in
-        leaves (omega (arith, ap (λ (x : Encoded). x .number) k)) z (w .written ∙ (rw (eq-eqb (r .length) 0 z)))
-    go m e (accepts p q) =
-        let some : m .length ≡ 0 → ⊥ = λ z. omega arith in
-        let k : r ≡ cond (leb (at + m .length) (length out)) (encoded 0 0 (m .length)) (encoded 21 0 0) = w .answer ∙ (rw (e, ne-eqb (m .length) 0 some)) in
-        room m (sym e) q (leb (at + m .length) (length out)) refl k
+      n : ℕ
+      n = length (listBytes s xs ns)
+
+      m : Measured
+      m = measureOf s checked xs ns
+
+      left : {a b : ℕ} → 0 < a → encoded a b 0 ≡ encodedIn m (length out) at → Encodes r later
+      left {a} {b} p e =
+          let k : r ≡ encoded a b 0 = w .answer ∙ sym e in
+          leaves (omega (arith, ap (λ (x : Encoded). x .number) k)) (w .written ∙ (rw k))
+
+      room : HasLength v n m → (m .length ≡ 0 → ⊥) → (b : Bool) → leb (at + m .length) (length out) ≡ b → Encodes r later
+      room f some true h =
+          let l = leb-true (at + m .length) (length out) h in
+          let k : r ≡ encoded 0 0 (m .length) = w .answer ∙ sym (placing-fits m (length out) at some l) in
+          let whole = body-length signature (accepted s checked xs ns m refl some) in
+          let fit : at + length (bodyBytes s xs ns signature) ≤ length out = omega arith in
+          writes (ap (λ (x : Encoded). x .number) k) (f .told) (ap (λ (x : Encoded). x .length) k ∙ sym whole)
+          (w .written ∙ (rw (k, ne-eqb (m .length) 0 some, le-leb _ (length out) fit)))
+      room f some false h = left (omega arith) (placing-21 m (length out) at some (leb-false (at + m .length) (length out) h))
+
+      number : (v ≡ refused (m .number) (m .item)) ⊎ (m .number ≡ 22) → 0 < m .number
+      number (inl e) = list-number s checked xs ns (m .number) (m .item) e
+      number (inr e) = omega arith
+
+      go : Measures v n m → Encodes r later
+      go (sized f) = room f (λ z. omega (arith, f .long)) (leb (at + m .length) (length out)) refl
+      go (unsized p z) = left (number p) (placing-refused m (length out) at z)

@@ -21,15 +21,15 @@ use Rattle.log_batch.specs.Acceptable.{Begins}
 use Rattle.log_batch.specs.Rows.{Joined, Indexed}
 use Rattle.log_batch.specs.Rows as lie
 use Rattle.log_item.specs.Place.{At, Found, Asks}
-use Rattle.log_item.proofs.Holds.{Holds, holds, after, at-most}
-use Rattle.log_item.proofs.Place.{join, cut, nothing, at-front}
+use Rattle.log_item.proofs.Holds.{Says, holds, after, if-most}
+use Rattle.log_item.proofs.Place.{join, cut, at-nothing, at-front}
 use Rattle.log_item.proofs.Numbers.{complete-number, sound-number, number-some, in-any}
 use Rattle.log_batch.proofs.ItemRows.{each-append, each-split, item-length, item-joined, item-consecutive, joined-append}
 use Rattle.log_item.proofs.Complete.{complete-item}
 use Rattle.log_item.proofs.Sound.{sound-item}
 use Rattle.log_item.proofs.Forms.{item-as}
 use Rattle.log_batch.specs.Reading.{accepted, items, count, readItems}
-use Rattle.log_batch.proofs.Accepts.{Accepts, accepts, in-front, counting, weaken, one-more}
+use Rattle.log_batch.proofs.Accepts.{Accepts, accepts, in-front, counting, weaken, accepts-more}
 
 module _ (form : Form) {s : List ℕ} where
   -- Items that are spelled, within the limits and with e entries before them, are read.
@@ -69,10 +69,10 @@ module _ (form : Form) (s : List ℕ) (asks : Asks form s) where
   pub sound-items : (k i e t p : ℕ) → e ≤ 1024 → Accepts (λ xs rows u q. Found s (ItemsSpelled form k e t p xs rows u) p q) (items form s k i e t p)
   unfolding items
   sound-items zero i e t p small =
-      accepts (record { bytes = []; at = nothing p; has = record { spelled = end; each = every.Each.none; few = omega arith; long = refl } })
+      accepts (record { bytes = []; at = at-nothing p; has = record { spelled = end; each = every.Each.none; few = omega arith; long = refl } })
   sound-items (suc k) i e t p small =
       in-front _ _ (sound-item form s asks e t p small) λ r a f.
-      one-more _ _ (sound-items k (i + 1) (e + length (r .rows)) (r .total) a (f .has .few)) λ xs more u q g.
+      accepts-more _ _ (sound-items k (i + 1) (e + length (r .rows)) (r .total) a (f .has .few)) λ xs more u q g.
       record {
         bytes = f .bytes ++ g .bytes;
         at = join (f .at) (g .at);
@@ -85,9 +85,9 @@ module _ (form : Form) (s : List ℕ) (asks : Asks form s) where
       }
 
   -- A count that is read is spelled, and at most 256.
-  pub sound-count : Holds (λ k q. Found s (NumberIn form k) 0 q × (k ≤ 256)) (count form s 0)
+  pub sound-count : Says (λ k q. Found s (NumberIn form k) 0 q × (k ≤ 256)) (count form s 0)
   unfolding count
-  sound-count = after (sound-number form s asks 0) λ k q f. at-most k 256 _ _ _ λ few. holds (f, few)
+  sound-count = after (sound-number form s asks 0) λ k q f. if-most k 256 _ _ _ λ few. holds (f, few)
 
   -- A list that is read spells a beginning, within the limits, and the place after it is where the beginning ends.
   pub sound : Accepts (λ xs rows u q. (bytes : List ℕ) × Begins form s xs rows u bytes × (q ≡ length bytes)) (readItems form s)

@@ -9,7 +9,7 @@ use borrow.Author.Tests.{eq-eqb, ne-eqb}
 use lib.Dec.{eqb}
 use lib.ListN.{getD, drop, length-take, length-drop}
 use lib.Seq.{getD-drop, getD-take}
-use Rattle.log_item.proofs.Inside.{inside-bound}
+use Rattle.log_item.proofs.Lengths.{inside-bound}
 use Rattle.log_item.proofs.Starts.{begins-more}
 use Rattle.log_item.specs.Prefix.{prefix, begins, bytesOf, inside}
 use Rattle.log_item.specs.declared.Span.{Span}

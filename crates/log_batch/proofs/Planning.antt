@@ -3,13 +3,14 @@
 use Prim.Native.Nat.{ℕ, _+_, _*_, _≤_, _<_}
 use mathlib.Core.Path.{_≡_, refl, ap, _∙_}
 use mathlib.Core.Logic.{_⊎_, inl, inr}
-use mathlib.Core.Bool.{Bool, true, false, cond, _&&_, and-false}
+use mathlib.Core.Bool.{Bool, true, false, _&&_, and-false}
 use mathlib.Core.List.{List, [], _++_}
 use native.Mathlib.Omega.{arith}
 use lib.Bits.{xor-zero-r}
 use lib.Dec.{ltb, leb, eqb}
 use lib.ListN.{length, length-append}
 use borrow.Author.Tests.{eq-eqb, ne-eqb, le-leb, lt-leb, lt-ltb, le-ltb, leb-true, ltb-false, eqb-true, eqb-false}
+use Rattle.refusal.proofs.First.{not-first, not-second}
 use Rattle.words.specs.Word.{bigEndianBytes, littleEndianBytes}
 use Rattle.words.proofs.Words.{length-big, length-little}
 use Rattle.crc.specs.Crc.{crcOf}
@@ -17,8 +18,9 @@ use Rattle.log_item.specs.declared.LogItem.{LogItem}
 use Rattle.list_measure.specs.declared.Measured.{Measured}
 use Rattle.list_writer.specs.declared.Encoded.{Encoded}
 use Rattle.list_measure.specs.Bytes.{listBytes}
-use Rattle.list_measure.specs.Refusing.{Verdict, fine, refused, listVerdict}
-use Rattle.list_measure.specs.Answers.{measured, measuredOf, measureOf}
+use Rattle.list_measure.specs.Refusing.{fine, listVerdict}
+use Rattle.list_measure.specs.Answers.{measureOf}
+use Rattle.list_measure.proofs.Measuring.{Measures, sized, unsized, measures, sized-where}
 use Rattle.list_writer.specs.Bytes.{footed}
 use Rattle.list_writer.specs.Answers.{encoded}
 use Rattle.log_batch.specs.Front.{blockBytes, bodyOffset, headerBytes, frontBytes, batchEncoded}
@@ -60,37 +62,18 @@ front-length len content =
 
 -- A body that is not refused is short enough for the sums behind it.
 pub body-small : (s : List ℕ) (checked : Bool) (xs : List LogItem) (ns : List ℕ) {m : Measured} → m ≡ measureOf s checked xs ns → m .length ≤ 4294967295
-unfolding measureOf measuredOf
-body-small s checked xs ns {m} e = go (listVerdict s checked xs ns) e
+unfolding measureOf
+body-small s checked xs ns {m} e = go (measures (listVerdict s checked xs ns) (length (listBytes s xs ns)) e)
   where
-    n : ℕ
-    n = length (listBytes s xs ns)
-
-    at-fine : (t : ℕ) (b : Bool) → ltb 4294967295 (n + 4) ≡ b → m ≡ cond b (measured 22 0 0 0) (measured 0 0 (n + 4) t) → m .length ≤ 4294967295
-    at-fine t true h q = omega (arith, ap (λ (x : Measured). x .length) q)
-    at-fine t false h q = omega (arith, ap (λ (x : Measured). x .length) q, ltb-false 4294967295 (n + 4) h)
-
-    go : (v : Verdict) → m ≡ measuredOf v n → m .length ≤ 4294967295
-    go (refused a b) q = omega (arith, ap (λ (x : Measured). x .length) q)
-    go (fine t) q = at-fine t (ltb 4294967295 (n + 4)) refl q
+    go : Measures (listVerdict s checked xs ns) (length (listBytes s xs ns)) m → m .length ≤ 4294967295
+    go (sized f) = f .small
+    go (unsized p z) = omega arith
 
 -- The verdict on a list whose measure has a length.
 pub verdict-of : (s : List ℕ) (checked : Bool) (xs : List LogItem) (ns : List ℕ) → (measureOf s checked xs ns .length ≡ 0 → ⊥)
     → listVerdict s checked xs ns ≡ fine (measureOf s checked xs ns .total)
-unfolding measureOf measuredOf
-verdict-of s checked xs ns h = go (listVerdict s checked xs ns) h
-  where
-    n : ℕ
-    n = length (listBytes s xs ns)
-
-    at-fine : (t : ℕ) (b : Bool) → (cond b (measured 22 0 0 0) (measured 0 0 (n + 4) t) .length ≡ 0 → ⊥)
-        → t ≡ cond b (measured 22 0 0 0) (measured 0 0 (n + 4) t) .total
-    at-fine t true k = absurd (k refl)
-    at-fine t false k = refl
-
-    go : (v : Verdict) → (measuredOf v n .length ≡ 0 → ⊥) → v ≡ fine (measuredOf v n .total)
-    go (refused a b) k = absurd (k refl)
-    go (fine t) k = ap fine (at-fine t (ltb 4294967295 (n + 4)) k)
+unfolding measureOf
+verdict-of s checked xs ns h = sized-where (listVerdict s checked xs ns) (length (listBytes s xs ns)) refl h .told
 
 -- ---- the answer
 
@@ -99,9 +82,9 @@ something items content (inl h) = rw (ne-eqb items 0 h)
 something items content (inr h) = rw (ne-eqb content 0 h) (and-false (eqb items 0))
 
 module _ (m : Measured) (items : ℕ) (content : List ℕ) (room : ℕ) {r : Encoded} where
-  pub nothing : items ≡ 0 → length content ≡ 0 → r ≡ encoded 0 0 0 → r ≡ batchEncoded m items content room
+  pub nothing-written : items ≡ 0 → length content ≡ 0 → r ≡ encoded 0 0 0 → r ≡ batchEncoded m items content room
   unfolding batchEncoded
-  nothing a b e = rw (eq-eqb _ _ a, eq-eqb _ _ b) e
+  nothing-written a b e = rw (eq-eqb _ _ a, eq-eqb _ _ b) e
 
   module _ (some : (items ≡ 0 → ⊥) ⊎ (length content ≡ 0 → ⊥)) where
     pub refused-body : m .length ≡ 0 → r ≡ encoded (m .number) (m .item) 0 → r ≡ batchEncoded m items content room
@@ -132,6 +115,7 @@ module _ (m : Measured) (items : ℕ) (content : List ℕ) (room : ℕ) {r : Enc
 
 -- What an answer with a length tells.
 pub record Planned (m : Measured) (content : List ℕ) (room : ℕ) (r : Encoded) : Type 0 where
+  pub number : r .number ≡ 0
   pub some : m .length ≡ 0 → ⊥
   pub few : length content ≤ 2147483647
   pub total : m .total ≡ length content
@@ -141,71 +125,33 @@ pub record Planned (m : Measured) (content : List ℕ) (room : ℕ) (r : Encoded
 pub planned : (m : Measured) (items : ℕ) (content : List ℕ) (room : ℕ) {r : Encoded} → r ≡ batchEncoded m items content room → (r .length ≡ 0 → ⊥)
     → Planned m content room r
 unfolding batchEncoded
-planned m items content room {r} told h = first (eqb items 0 && eqb (length content) 0) told
+planned m items content room {r} told h =
+    let size : ℕ = bodyOffset content + m .length in
+    let a = not-first (eqb items 0 && eqb (length content) 0) told none in
+    let b = not-first (eqb (m .length) 0) (a .1) none in
+    let c = not-first (ltb 2147483647 (m .total)) (b .1) none in
+    let d = not-second (eqb (m .total) (length content)) (c .1) none in
+    let e = not-second (leb size room) (d .1) none in
+    let long : r .length ≡ size = ap (λ (x : Encoded). x .length) (e .1) in
+    let few = ltb-false 2147483647 (m .total) (c .0) in
+    let same = eqb-true (m .total) (length content) (d .0) in
+    record {
+      number = ap (λ (x : Encoded). x .number) (e .1);
+      some = eqb-false (m .length) 0 (b .0);
+      few = omega arith;
+      total = same;
+      size = long;
+      fits = omega (arith, leb-true size room (e .0));
+    }
   where
-    size : ℕ
-    size = bodyOffset content + m .length
-
-    none : {n i : ℕ} → r ≡ encoded n i 0 → Planned m content room r
-    none e = absurd (h (ap (λ (x : Encoded). x .length) e))
-
-    fifth : (m .length ≡ 0 → ⊥) → m .total ≤ 2147483647 → m .total ≡ length content → (b : Bool) → leb size room ≡ b
-        → r ≡ cond b (encoded 0 0 size) (encoded 21 0 0) → Planned m content room r
-    fifth some few same true t e =
-        let long : r .length ≡ size = ap (λ (x : Encoded). x .length) e in
-        record { some = some; few = omega arith; total = same; size = long; fits = omega (arith, leb-true size room t) }
-    fifth some few same false t e = none e
-
-    fourth : (m .length ≡ 0 → ⊥) → m .total ≤ 2147483647 → (b : Bool) → eqb (m .total) (length content) ≡ b
-        → r ≡ cond b (cond (leb size room) (encoded 0 0 size) (encoded 21 0 0)) (encoded 20 0 0) → Planned m content room r
-    fourth some few true t e = fifth some few (eqb-true _ _ t) (leb size room) refl e
-    fourth some few false t e = none e
-
-    third : (m .length ≡ 0 → ⊥) → (b : Bool) → ltb 2147483647 (m .total) ≡ b
-        → r ≡ cond b (encoded 22 0 0) (cond (eqb (m .total) (length content)) (cond (leb size room) (encoded 0 0 size) (encoded 21 0 0)) (encoded 20 0 0))
-        → Planned m content room r
-    third some true t e = none e
-    third some false t e = fourth some (ltb-false _ _ t) (eqb (m .total) (length content)) refl e
-
-    second : (b : Bool) → eqb (m .length) 0 ≡ b
-        → r ≡ cond b (encoded (m .number) (m .item) 0)
-        (cond (ltb 2147483647 (m .total)) (encoded 22 0 0)
-        (cond (eqb (m .total) (length content)) (cond (leb size room) (encoded 0 0 size) (encoded 21 0 0)) (encoded 20 0 0)))
-        → Planned m content room r
-    second true t e = none e
-    second false t e = third (eqb-false (m .length) 0 t) (ltb 2147483647 (m .total)) refl e
-
-    first : (b : Bool)
-        → r ≡ cond b (encoded 0 0 0)
-        (cond (eqb (m .length) 0) (encoded (m .number) (m .item) 0)
-        (cond (ltb 2147483647 (m .total)) (encoded 22 0 0)
-        (cond (eqb (m .total) (length content)) (cond (leb size room) (encoded 0 0 size) (encoded 21 0 0)) (encoded 20 0 0))))
-        → Planned m content room r
-    first true e = none e
-    first false e = second (eqb (m .length) 0) refl e
+    none : {n i : ℕ} → r ≡ encoded n i 0 → ⊥
+    none e = h (ap (λ (x : Encoded). x .length) e)
 
 -- An answer that refuses has no length.
-record Silent (r : Encoded) : Type 0 where
-  none : (r .number ≡ 0 → ⊥) → r .length ≡ 0
-
-either : (b : Bool) {x y : Encoded} → Silent x → Silent y → Silent (cond b x y)
-either true h k = h
-either false h k = k
-
-silent : (m : Measured) (items : ℕ) (content : List ℕ) (room : ℕ) → Silent (batchEncoded m items content room)
-unfolding batchEncoded
-silent m items content room =
-    either (eqb items 0 && eqb (length content) 0) (no 0 0)
-    (either (eqb (m .length) 0) (no (m .number) (m .item))
-    (either (ltb 2147483647 (m .total)) (no 22 0)
-    (either (eqb (m .total) (length content)) (either (leb size room) (record { none = λ h. absurd (h refl) }) (no 21 0)) (no 20 0))))
-  where
-    size : ℕ
-    size = bodyOffset content + m .length
-
-    no : (n i : ℕ) → Silent (encoded n i 0)
-    no n i = record { none = λ h. refl }
-
 pub refused-length : (m : Measured) (items : ℕ) (content : List ℕ) (room : ℕ) {r : Encoded} → r ≡ batchEncoded m items content room → (r .number ≡ 0 → ⊥)
     → r .length ≡ 0
-refused-length m items content room e h = (rw (← e) at (silent m items content room)) .none h
+refused-length m items content room {r} e h = go (eqb (r .length) 0) refl
+  where
+    go : (b : Bool) → eqb (r .length) 0 ≡ b → r .length ≡ 0
+    go true t = eqb-true _ _ t
+    go false t = absurd (h (planned m items content room e (eqb-false _ _ t) .number))

@@ -1,14 +1,15 @@
 -- What testing a seal and a block comes to: a law for each way out of the code. And what a right seal is.
 -- Assumes nothing.
 use Prim.Native.Nat.{ℕ, _+_, _-_, _≤_, _<_}
-use mathlib.Core.Path.{_≡_, refl, sym, ap, _∙_}
-use mathlib.Core.Bool.{Bool, true, false, cond}
+use mathlib.Core.Path.{_≡_, sym, ap, _∙_}
 use mathlib.Core.List.{List, _++_}
 use native.Mathlib.Omega.{arith}
 use borrow.Author.Tests.{le-leb, lt-leb, leb-false, eq-eqb, ne-eqb, eqb-true}
 use lib.Bits.{bitXor}
+use lib.Dec.{leb, eqb}
 use lib.ListN.{length, drop, length-append, length-drop}
 use lib.Seq.{take-all, take-at, drop-at}
+use Rattle.refusal.proofs.First.{untaken, taken}
 use Rattle.words.specs.Word.{littleEndian, readU32}
 use Rattle.words.specs.declared.U32Read.the-variants.{Done, Eof}
 use Rattle.crc.specs.Crc.{crcOf}
@@ -56,16 +57,13 @@ pub record Sealed (b : List ℕ) (signature : ℕ) : Type 0 where
   pub long : 4 < length b
   pub right : footer b ≡ bitXor (crcOf (sealedPart b)) signature
 
--- Neither check fails.
-passed : (a b : Bool) → _≡_ {A = ℕ} (cond a 5 (cond b 0 6)) 0 → (a ≡ false) × (b ≡ true)
-passed true b e = absurd (omega arith)
-passed false true e = (refl, refl)
-passed false false e = absurd (omega arith)
-
 -- Bytes that pass both checks have a right seal.
 pub sealed : (b : List ℕ) (signature : ℕ) → sealCheck b signature ≡ 0 → Sealed b signature
 unfolding sealCheck
-sealed b signature e = let p = passed _ _ e in record { long = leb-false _ _ (p .0); right = eqb-true _ _ (p .1) }
+sealed b signature e =
+    let p = untaken (leb (length b) 4) 4 _ e in
+    let q = taken (eqb (footer b) (bitXor (crcOf (sealedPart b)) signature)) 5 0 (p .1) in
+    record { long = leb-false _ _ (p .0); right = eqb-true _ _ (q .0) }
 
 -- A seal that is not broken has more than four bytes.
 pub seal-long : (b : List ℕ) (signature : ℕ) → sealCheck b signature ≡ 0 → 4 < length b

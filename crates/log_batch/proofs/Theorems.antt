@@ -54,8 +54,7 @@ use Rattle.log_batch.proofs.Listing.{complete, sound, items-joined, ite
 use Rattle.log_batch.proofs.One.{one-spelled}
 use Rattle.log_batch.proofs.Bodies.{sound-body, complete-body, sound-plain, complete-plain}
 use Rattle.log_batch.proofs.Written.{written-spelled, written-kept, read-back, other-signature, table-small, buffer-written, buffer-read-back}
-use Rattle.log_batch.proofs.Encoding.{Encodes, writes, leaves}
-use Rattle.log_batch.proofs.ListWritten.{encodes}
+use Rattle.log_batch.proofs.ListWritten.{Encodes, writes, leaves, encodes}
 use Rattle.log_batch.specs.Front.{blockBytes, bodyOffset, batchEncoded}
 use Rattle.log_batch.proofs.Planning.{planned, verdict-of, refused-length}
 use Rattle.log_batch.specs.Batch.{blockOf, bodyOf, readBatch}
@@ -317,8 +316,8 @@ refused-body-kept checked t s signature {out} {r} {later} w h =
     go (encodes s checked (listed t) (tableLengths t) signature out 0 w)
   where
     go : Encodes s checked (listed t) (tableLengths t) signature out 0 r later → later ≡ out
-    go (writes z some b) = absurd (h z)
-    go (leaves some z same) = same
+    go (writes z v long e) = absurd (h z)
+    go (leaves some same) = same
 
 -- Where the answer has no length, the buffer is as it was.
 pub batch-absent : {m : Measured} {items : ℕ} {content body out : List ℕ} {r : Encoded} {later : List ℕ} → BatchWritten m items content body out r later

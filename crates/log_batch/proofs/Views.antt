@@ -1,30 +1,18 @@
 -- What checking an entry's row against its block, and taking its part, come to: a law for each way out of the code.
 -- Assumes nothing.
-use Prim.Native.Nat.{ℕ, zero, suc, _+_, _-_, _≤_, _<_}
+use Prim.Native.Nat.{ℕ, _+_, _-_, _≤_, _<_}
 use mathlib.Core.Path.{_≡_, refl, sym, ap, _∙_}
-use mathlib.Core.Bool.{Bool, true, false, cond}
 use mathlib.Core.List.{List, []}
 use native.Mathlib.Omega.{arith}
 use native.Mathlib.Nat.{add-sub-cancel-left}
 use borrow.Author.Tests.{le-leb, lt-leb, eq-eqb, ne-eqb, leb-true}
 use lib.Dec.{leb, eqb}
 use lib.ListN.{length, take, drop}
-use Rattle.refusal.proofs.First.{other-answer}
+use Rattle.refusal.proofs.First.{other-answer, first-fails, first-passes, neither-refused, taken}
 use Rattle.pipe_log.specs.declared.LogQueue.the-variants.{Append, Rewrite}
 use Rattle.pipe_log.specs.declared.Location.{Location}
 use Rattle.log_batch.specs.Seal.{blockCheck, contentLength}
-use Rattle.refusal.specs.First.{firstOf}
 use Rattle.log_batch.specs.View.{named, entryCheck, viewCheck, viewed}
-
--- ---- one check after the other
-
-first-fails : {n : ℕ} (m r : ℕ) → n ≡ m → (n ≡ 0 → ⊥) → n ≡ firstOf m r
-first-fails zero r e h = absurd (h e)
-first-fails (suc m) r e h = e
-
-first-passes : {n x : ℕ} (m r : ℕ) → n ≡ m → n ≡ 0 → x ≡ r → x ≡ firstOf m r
-first-passes zero r e h f = f
-first-passes (suc m) r e h f = absurd (omega arith)
 
 -- ---- an entry and its block
 
@@ -55,14 +43,10 @@ module _ (row : Location) (block : List ℕ) where
   -- An entry that passes every check lies in the block.
   pub entry-lies : viewCheck row block ≡ 0 → row .«entry_offset» + row .«entry_len» ≤ length block
   unfolding entryCheck
-  entry-lies e = go (eqb (length block) (row .len)) (blockCheck block) (leb (row .«entry_offset» + row .«entry_len») (contentLength block)) refl e
-    where
-      go : (a : Bool) (b : ℕ) (c : Bool) → leb (row .«entry_offset» + row .«entry_len») (contentLength block) ≡ c
-          → _≡_ {A = ℕ} (cond a (firstOf b (cond c 0 13)) 20) 0 → row .«entry_offset» + row .«entry_len» ≤ length block
-      go true zero true h f = omega (arith, leb-true (row .«entry_offset» + row .«entry_len») (contentLength block) h)
-      go true zero false h f = absurd (omega arith)
-      go true (suc b) c h f = absurd (omega arith)
-      go false b c h f = absurd (omega arith)
+  entry-lies e =
+      let same = taken (eqb (length block) (row .len)) 19 _ e in
+      let fits = taken (leb (row .«entry_offset» + row .«entry_len») (contentLength block)) 12 0 (neither-refused (blockCheck block) _ (same .1) .1) in
+      omega (arith, leb-true (row .«entry_offset» + row .«entry_len») (contentLength block) (fits .0))
 
   pub view-none : {n : ℕ} → n ≡ viewCheck row block → (n ≡ 0 → ⊥) → [] ≡ viewed (viewCheck row block) row block
   unfolding viewed

@@ -18,12 +18,11 @@ use Rattle.log_batch.specs.Reading.{accepted, rejected, Answer}
 use Rattle.log_batch.specs.Body.{readBody}
 use Rattle.log_batch.specs.declared.Wanted.the-variants.{Exactly}
 use Rattle.log_batch.specs.Total.{agreeing}
-use Rattle.log_batch.proofs.NonZero.{refusal-some}
 use Rattle.log_batch.specs.Table.{tableOf, emptyTable}
 use Rattle.log_batch.specs.declared.LogBatch.{LogBatch}
 use Rattle.log_batch.specs.Header.{frame, header}
 use Rattle.log_batch.specs.Batch.{blockOf, bodyOf, frontBatch, batchAnswer, bodyPlace, blockPlace, readBatch}
-use Rattle.log_batch.proofs.Refusing.{front-some, taken}
+use Rattle.log_batch.proofs.NonZero.{refusal-some, front-some, total-agrees}
 use Rattle.log_batch.proofs.Frames.{header-known, front-known}
 
 module _ (s : List ℕ) (signature : ℕ) where
@@ -58,7 +57,7 @@ module _ (s : List ℕ) (signature : ℕ) where
       only (refused r) e z = absurd (front-some s e z)
       only (got h q) e z =
           let k =
-          taken (bodyPlace (got h q)) (blockPlace (got h q)) (contentLength (blockOf h s)) (readBody (bodyOf h s) signature) (λ r i f. refusal-some (bodyOf h s) signature f) z in
+          total-agrees (bodyPlace (got h q)) (blockPlace (got h q)) (contentLength (blockOf h s)) (readBody (bodyOf h s) signature) (λ r i f. refusal-some (bodyOf h s) signature f) z in
           (h, q, e, k)
 
 -- Bytes past the length are not looked at.

@@ -8,10 +8,10 @@ use mathlib.Core.List.{List, [], _∷_, _++_, append-nil}
 use native.Mathlib.Omega.{arith}
 use native.Mathlib.Nat.{zero-add}
 use lib.Bits.{bitXor, xor-lt}
-use lib.Dec.{ltb, lit<}
+use lib.Dec.{lit<}
 use lib.ListN.{length, take, drop, length-append}
 use lib.Seq.{take-at}
-use borrow.Author.Tests.{ltb-false, le-ltb, lt-leb, ne-eqb}
+use borrow.Author.Tests.{lt-leb, ne-eqb}
 use Rattle.numbers.specs.Shortest.{shortest}
 use Rattle.words.specs.Word.{littleEndian, littleEndianBytes}
 use Rattle.words.proofs.Words.{length-little, little-endian-back}
@@ -26,7 +26,6 @@ use Rattle.log_batch.specs.Limits.{Within}
 use Rattle.log_item.specs.Spelling.{NumberIn}
 use Rattle.log_batch.specs.Spelling.{Items, end, then, Spells, list}
 use Rattle.log_item.specs.Place.{At}
-use Rattle.log_batch.proofs.Encoding.{Encodes, writes, leaves}
 use Rattle.log_item.specs.declared.Form.the-variants.{Any, Plain}
 use Rattle.log_item.specs.declared.LogItemContent.{LogItemContent}
 use Rattle.log_item.specs.declared.LogItemContent.the-variants as contents
@@ -47,8 +46,8 @@ use Rattle.log_item.specs.Blank.{blankItem}
 use Rattle.list_measure.specs.Bytes.{itemsOf, itemsBytes, listBytes}
 use Rattle.list_writer.specs.Bytes.{footed, bodyBytes}
 use Rattle.list_measure.specs.Refusing.{fine, itemsVerdict, listVerdict}
-use Rattle.list_measure.proofs.Heads.{cond-fine}
-use Rattle.log_batch.proofs.ListWritten.{items-fine, encodes}
+use Rattle.list_measure.proofs.Measuring.{list-fine}
+use Rattle.log_batch.proofs.ListWritten.{items-fine, Encodes, writes, leaves, encodes}
 use Rattle.log_batch.specs.declared.LogItemBatch.{LogItemBatch}
 use Rattle.log_batch.specs.Reading.{accepted, rejected}
 use Rattle.log_batch.specs.Seal.{sealCheck}
@@ -175,8 +174,7 @@ clash e = let z : _≡_ {A = ℕ} 0 1 = cc in omega arith
 
 module _ (s : List ℕ) (checked : Bool) (xs : List LogItem) (ns : List ℕ) (total : ℕ) (z : AllSmall xs) (h : listVerdict s checked xs ns ≡ fine total) where
   told : (length xs ≤ 256) × (itemsVerdict s checked xs ns 0 0 0 ≡ fine total)
-  unfolding listVerdict
-  told = let c = cond-fine (ltb 256 (length xs)) 9 0 (itemsVerdict s checked xs ns 0 0 0) total h in (ltb-false 256 (length xs) (c .0), c .1)
+  told = list-fine s checked xs ns h
 
   -- What is written is spelled, with shortest numbers, by the list with its places worked out, and that list is within the limits.
   pub written-spelled : Spells (NumberIn Plain) (bodyItems s xs ns) (bodyRows xs ns) total (listBytes s xs ns) × Within (bodyItems s xs ns) (bodyRows xs ns)
@@ -254,16 +252,14 @@ module _ (checked : Bool) (t : LogItemBatch) (s : List ℕ) (signature : ℕ) (o
   pub buffer-written : BodyWritten checked t s signature out r later → r .number ≡ 0
       → (total : ℕ) × (take (r .length) later ≡ bodyBytes s (listed t) (table.tableLengths t) signature)
       × (listVerdict s checked (listed t) (table.tableLengths t) ≡ fine total)
-  unfolding listVerdict
   buffer-written w z = go (encodes s checked (listed t) (table.tableLengths t) signature out 0 w)
     where
       go : Encodes s checked (listed t) (table.tableLengths t) signature out 0 r later
           → (total : ℕ) × (take (r .length) later ≡ bodyBytes s (listed t) (table.tableLengths t) signature)
           × (listVerdict s checked (listed t) (table.tableLengths t) ≡ fine total)
-      go (writes a b f) =
-          let front = take-at (bodyBytes s (listed t) (table.tableLengths t) signature) _ (r .length) (sym (f .whole)) in
-          (f .total, ap (take (r .length)) (f .bytes) ∙ front, (rw (le-ltb 256 (length (listed t)) (f .few)) (f .told)))
-      go (leaves a b c) = absurd (omega arith)
+      go (writes {total = total} a v long e) =
+          (total, ap (take (r .length)) e ∙ take-at (bodyBytes s (listed t) (table.tableLengths t) signature) _ (r .length) (sym long), v)
+      go (leaves a e) = absurd (omega arith)
 
   -- So it is read back: the table's list with its places worked out, its rows and a total; and each key and content has the bytes that it had.
   pub buffer-read-back : AllSmall (t .items) → Bytes s → signature < 2 ^ 32 → BodyWritten checked t s signature out r later → r .number ≡ 0

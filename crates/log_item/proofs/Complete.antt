@@ -19,7 +19,7 @@ use Rattle.log_item.specs.Spelling.{NumberIn, Spanned, spanned, Contents
 use Rattle.log_item.specs.Place.{At}
 use Rattle.log_item.specs.Pieces.{span}
 use Rattle.log_item.specs.Reading.{command, putAt, keyValue, firstIndex, entryIndexes, content, head, tail, tails, oneItem}
-use Rattle.log_item.proofs.Place.{cut, inside, complete-byte}
+use Rattle.log_item.proofs.Place.{cut, at-inside, complete-byte}
 use Rattle.log_item.proofs.Numbers.{number-some, complete-number}
 
 -- There are as many rows as tails.
@@ -40,7 +40,7 @@ module _ (form : Form) {s : List ℕ} where
   complete-span {p = p} {q = q} (spanned {size = size} bytes num) f =
       let c = cut size f in
       let e : p + length size + length bytes ≡ q = sym (c .1 .ends) in
-      let fits : q ≤ length s = inside f (omega (arith, number-some form _ size num, length-append size bytes)) in
+      let fits : q ≤ length s = at-inside f (omega (arith, number-some form _ size num, length-append size bytes)) in
       rw (complete-number form num (c .0), e, le-leb _ _ fits)
 
   -- Tails that are spelled, with rows within the limits, are read.

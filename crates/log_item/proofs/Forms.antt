@@ -2,6 +2,7 @@
 -- Assumes nothing.
 use Prim.Native.Nat.{ℕ}
 use mathlib.Core.List.{List}
+use Rattle.log_item.specs.declared.Form.{Form}
 use Rattle.log_item.specs.declared.Form.the-variants.{Any, Plain}
 use Rattle.log_item.specs.declared.Span.{Span}
 use Rattle.log_item.specs.declared.LogItemContent.{LogItemContent}
@@ -31,6 +32,8 @@ module _ (N M : ℕ → List ℕ → Type 0) (f : (n : ℕ) (x : List ℕ) → N
   pub item-as : {x : LogItem} {rows : List EntryIndex} {t u p : ℕ} {bytes : List ℕ} → OneItem N x rows t u p bytes → OneItem M x rows t u p bytes
   item-as (item num c g) = item (f _ _ num) (contents-as c) (tails-as g)
 
--- An item in shortest numbers is an item.
-pub form-any : {x : LogItem} {rows : List EntryIndex} {t u p : ℕ} {bytes : List ℕ} → OneItem (NumberIn Plain) x rows t u p bytes → OneItem (NumberIn Any) x rows t u p bytes
-form-any h = item-as (NumberIn Plain) (NumberIn Any) plain-any h
+-- An item in shortest numbers is an item in either form.
+pub in-form : (form : Form) {x : LogItem} {rows : List EntryIndex} {t u p : ℕ} {bytes : List ℕ} → OneItem (NumberIn Plain) x rows t u p bytes
+    → OneItem (NumberIn form) x rows t u p bytes
+in-form Any h = item-as (NumberIn Plain) (NumberIn Any) plain-any h
+in-form Plain h = h

@@ -19,7 +19,7 @@ use Rattle.log_item.specs.declared.LogItemContent.the-variants as conten
 use Rattle.log_item.proofs.Holds.{Holds, holds, later, at-most, only}
 use Rattle.log_item.proofs.Fields.{key-put}
 use Rattle.log_item.proofs.Parts.{entries-first, head-done, head-no-content, head-no-type, head-refused}
-use Rattle.log_item.proofs.Passing.{passing, pass-end, item-rows, item-refused}
+use Rattle.log_item.proofs.Passing.{passing, pass-end, item-rows, item-no-head}
 use Rattle.log_item.specs.declared.Skipped.{Skipped}
 use Rattle.log_item.specs.declared.Skipped.the-variants as skipped
 use Rattle.log_item.specs.declared.Passed.the-variants as passed
@@ -70,9 +70,9 @@ module _ (form : Form) (s : List ℕ) where
     unfolding passRows
     rows-first e = rw (← e)
 
-    pub rows-refused : {r : ℕ} → refused r ≡ firstIndex form s n p → refused r ≡ passRows form s n t p
+    pub rows-no-first : {r : ℕ} → refused r ≡ firstIndex form s n p → refused r ≡ passRows form s n t p
     unfolding passRows
-    rows-refused e = rw (← e)
+    rows-no-first e = rw (← e)
 
   -- As many entries as were counted.
   first-count : (n p : ℕ) → Holds (λ x q. x .count ≡ n) (firstIndex form s n p)
@@ -137,7 +137,7 @@ module _ (form : Form) (s : List ℕ) where
 
   module _ (e t p : ℕ) where
     no-head : {r : ℕ} → refused r ≡ head form s e p → passed.Refused r ≡ itemPassed (passItem form s e t p)
-    no-head h = ap itemPassed (item-refused form s e t p (sym h))
+    no-head h = ap itemPassed (item-no-head form s e t p (sym h))
 
     pub item-no-group : {r : ℕ} → number form s p ≡ refused r → passed.Refused r ≡ itemPassed (passItem form s e t p)
     item-no-group f = no-head (head-refused form s e p f)

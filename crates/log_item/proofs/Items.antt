@@ -1,7 +1,7 @@
 -- What `measure` and `encode` answer, by their ways out.
 -- Assumes nothing.
-use Prim.Native.Nat.{ℕ, zero, suc, _+_, _≤_, _<_, min}
-use mathlib.Core.Path.{_≡_, refl, sym, ap, _∙_}
+use Prim.Native.Nat.{ℕ, _+_, _≤_, _<_, min}
+use mathlib.Core.Path.{_≡_, sym, ap, _∙_}
 use mathlib.Core.Bool.{Bool, true, false}
 use mathlib.Core.List.{List}
 use native.Mathlib.Omega.{arith}
@@ -14,7 +14,6 @@ use Rattle.log_item.specs.declared.EntryIndexes.{EntryIndexes}
 use Rattle.log_item.specs.declared.LogItem.{LogItem}
 use Rattle.log_item.specs.Bytes.{headBytes, tailsBytes}
 use Rattle.log_item.specs.Refusing.{contentInside, contentRefusal}
-use Rattle.refusal.specs.First.{firstOf}
 use Rattle.log_item.specs.Written.{capped, measureItem, sumOf, rowLengths, itemBytes, itemRefusal, ItemWritten}
 use Rattle.log_item.specs.Private.{Room, Stored, fitted, headLength, tailsSize}
 use Rattle.log_item.specs.declared.TailsSize.{TailsSize}
@@ -24,7 +23,7 @@ use Rattle.log_item.specs.declared.ItemWrote.the-variants as item
 use Rattle.log_item.proofs.Stores.{room-first, room-then, room-told, short-told, stored-then}
 use Rattle.log_item.proofs.Lengths.{head-length}
 use Rattle.log_item.proofs.Refusals.{content-inside, content-allowed}
-use Rattle.refusal.proofs.First.{other-answer}
+use Rattle.refusal.proofs.First.{other-answer, first-fails}
 use Rattle.log_item.proofs.Tails.{size-over, size-fine}
 
 module _ (s : List ℕ) (checked : Bool) (used rows : ℕ) (x : LogItem) {n : ℕ} (e : n ≡ contentRefusal s checked used rows (x .content)) where
@@ -40,10 +39,6 @@ module _ (s : List ℕ) (checked : Bool) (used rows : ℕ) (x : LogItem) {n : �
       let v : m ≡ capped (length (headBytes s x)) = omega (arith, head-length s x i) in
       rw (← e, z, ← v, ← p)
 
-first-refused : (n r : ℕ) → (n ≡ 0 → ⊥) → firstOf n r ≡ n
-first-refused zero r h = absurd (h refl)
-first-refused (suc n) r h = refl
-
 module _ (s : List ℕ) (x : LogItem) (lengths : List ℕ) (t : ℕ) (out : List ℕ) (at : ℕ) where
   refuses : (n : ℕ) → itemRefusal s x lengths t out at ≡ n → (n ≡ 0 → ⊥) → ItemWritten s x lengths t out at (item.Refused n) out
   refuses n e h = record { answer = rw e (other-answer n _ _ h); written = rw e (other-answer n _ _ h) }
@@ -51,7 +46,7 @@ module _ (s : List ℕ) (x : LogItem) (lengths : List ℕ) (t : ℕ) (out : List
   module _ {n : ℕ} (e : n ≡ contentRefusal s false 0 (length lengths) (x .content)) where
     pub encode-refused : (n ≡ 0 → ⊥) → ItemWritten s x lengths t out at (item.Refused n) out
     unfolding itemRefusal
-    encode-refused h = refuses n (rw (← e) (first-refused n _ h)) h
+    encode-refused h = refuses n (sym (first-fails _ _ e h)) h
 
     module _ (z : n ≡ 0) {d : EntryIndexes} (p : d ≡ entriesOf (x .content)) where
       rows : take (d .count) lengths ≡ rowLengths x lengths

@@ -1,13 +1,13 @@
 -- The lengths of what is written, where the spans lie in the store.
 -- Assumes nothing.
-use Prim.Native.Nat.{ℕ, zero, suc, _+_, _-_}
+use Prim.Native.Nat.{ℕ, zero, suc, _+_, _-_, _≤_}
 use mathlib.Core.Path.{_≡_, refl, ap, _∙_}
 use mathlib.Core.Bool.{true, and-eq-true-iff}
 use mathlib.Core.List.{List, _∷_, _++_}
 use native.Mathlib.Omega.{arith}
+use borrow.Author.Tests.{leb-true}
 use lib.ListN.{length, take, drop, length-append, length-take, length-drop}
 use Rattle.numbers.specs.Shortest.{shortest, spell}
-use Rattle.log_item.proofs.Inside.{inside-bound}
 use Rattle.log_item.specs.Prefix.{bytesOf, inside}
 use Rattle.log_item.specs.Entries.{typeOf}
 use Rattle.log_item.specs.declared.Span.{Span}
@@ -25,8 +25,11 @@ use Rattle.log_item.specs.Refusing.{opInside, contentInside}
 use Rattle.log_item.specs.Private.{fitted, spanLength, opLength, itemContentLength, headLength}
 
 module _ (s : List ℕ) where
+  pub inside-bound : (k : Span) → inside s k ≡ true → k .at + k .len ≤ length s
+  inside-bound k h = leb-true (k .at + k .len) (length s) h
+
   pub part-length : (k : Span) → inside s k ≡ true → length (bytesOf s k) ≡ k .len
-  part-length k h = length-take (k .len) (drop (k .at) s) ∙ omega (arith, length-drop (k .at) s, inside-bound s k h)
+  part-length k h = length-take (k .len) (drop (k .at) s) ∙ omega (arith, length-drop (k .at) s, inside-bound k h)
 
   pub span-length : (k : Span) → inside s k ≡ true → length (spanBytes s k) ≡ spanLength k
   unfolding spanBytes

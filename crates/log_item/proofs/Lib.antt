@@ -2,7 +2,6 @@ pub mod Holds
 pub mod Smallest
 pub mod NumberGot
 pub mod Starts
-pub mod Inside
 pub mod Going
 pub mod Short
 pub mod Fields

@@ -3,7 +3,6 @@
 use Prim.Native.Nat.{ℕ, _+_, _≤_, _<_}
 use mathlib.Core.Path.{_≡_, refl}
 use mathlib.Core.List.{List}
-use lib.Dec.{eqb}
 use lib.ListN.{length}
 use Rattle.numbers.specs.Shortest.{shortest}
 use Rattle.numbers.specs.Number.{readNumber}
@@ -14,7 +13,7 @@ use Rattle.log_item.specs.Got.{got, done}
 use Rattle.log_item.specs.Pieces.{numberGot, number}
 use Rattle.log_item.specs.declared.Form.{Form}
 use Rattle.log_item.specs.declared.Form.the-variants.{Any, Plain}
-use Rattle.log_item.proofs.Holds.{Holds, holds, refuses, after, tested, of-got}
+use Rattle.log_item.proofs.Holds.{Holds, holds, refuses, after, equal, of-got}
 
 -- the piece at p has a byte at least, and ends in the bytes
 abbrev Inside : List ℕ → ℕ → ℕ → ℕ → Type 0
@@ -32,7 +31,7 @@ module _ (s : List ℕ) (p : ℕ) where
   number-holds : (form : Form) → Holds (Inside s p) (number form s p)
   unfolding number
   number-holds Any = any-holds
-  number-holds Plain = after any-holds λ n q h. tested (eqb q (p + length (shortest n))) 8 (done n) q (λ _. holds h)
+  number-holds Plain = after any-holds λ n q h. equal q (p + length (shortest n)) 8 (done n) q (λ _. holds h)
 
 module _ (form : Form) (s : List ℕ) where
   -- A number has a byte at least, and ends in the bytes.

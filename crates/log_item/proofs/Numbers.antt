@@ -11,7 +11,7 @@ use Rattle.numbers.specs.declared.NumberRead.{NumberRead}
 use Rattle.numbers.specs.declared.NumberRead.the-variants.{Done, Eof, Overflow}
 use Rattle.numbers.specs.Number.{readNumber}
 use Rattle.numbers.specs.Shortest.{shortest}
-use Rattle.numbers.specs.Spelling.{Spells}
+use Rattle.numbers.specs.Spelling.{SpellsNumber}
 use Rattle.numbers.proofs.Spelled.{groups-pos}
 use Rattle.numbers.proofs.Theorems.{read-iff-stands, shortest-spells, none-as-short, spells-fits}
 use Rattle.log_item.specs.declared.Form.{Form}
@@ -20,7 +20,7 @@ use Rattle.log_item.specs.Got.{got}
 use Rattle.log_item.specs.Spelling.{NumberIn}
 use Rattle.log_item.specs.Place.{At, Found, Asks}
 use Rattle.log_item.specs.Pieces.{numberGot, number}
-use Rattle.log_item.proofs.Holds.{Holds, holds, refuses, after, equal}
+use Rattle.log_item.proofs.Holds.{Says, holds, says, after, if-equal}
 use Rattle.words.specs.Byte.{Bytes}
 use Rattle.log_item.proofs.Place.{bytes-at}
 
@@ -38,7 +38,7 @@ pub number-some : (form : Form) (n : ℕ) (x : List ℕ) → NumberIn form n x �
 number-some form n x h = groups-pos (in-any form n x h .groups)
 
 -- A number in any spelling is read.
-complete-any : {s : List ℕ} {n : ℕ} {x : List ℕ} → Spells n x → {p q : ℕ} → At s p q x → readNumber s p ≡ Done n q
+complete-any : {s : List ℕ} {n : ℕ} {x : List ℕ} → SpellsNumber n x → {p q : ℕ} → At s p q x → readNumber s p ≡ Done n q
 complete-any {s} {n} {x} h {p} {q} f = read-iff-stands s p n q .1 (record { bytes = x; rest = drop q s; spells = h; there = f .stand; after = f .ends })
 
 -- A number that is spelled at a place is read there.
@@ -50,26 +50,26 @@ complete-number Plain {n = n} {x = x} h {p} {q} f =
     rw (complete-any (plain-any n x h) f, eq-eqb _ _ e)
 
 -- A number that is read has a spelling there.
-sound-any : (s : List ℕ) (p : ℕ) → Holds (λ n q. Found s (Spells n) p q) (numberGot (readNumber s p))
+sound-any : (s : List ℕ) (p : ℕ) → Says (λ n q. Found s (SpellsNumber n) p q) (numberGot (readNumber s p))
 sound-any s p = go (readNumber s p) refl
   where
-    go : (r : NumberRead) → readNumber s p ≡ r → Holds (λ n q. Found s (Spells n) p q) (numberGot r)
+    go : (r : NumberRead) → readNumber s p ≡ r → Says (λ n q. Found s (SpellsNumber n) p q) (numberGot r)
     go (Done n q) e =
         let h = read-iff-stands s p n q .0 e in
         let rest : drop q s ≡ h .rest =
         ap (λ k. drop k s) (h .after) ∙ sym (drop-drop (length (h .bytes)) p s) ∙ ap (drop (length (h .bytes))) (h .there) ∙ drop-append-seam (h .bytes) (h .rest) in
         let stand : drop p s ≡ h .bytes ++ drop q s = rw rest (h .there) in
         holds (record { bytes = h .bytes; at = record { stand = stand; ends = h .after }; has = h .spells })
-    go Eof e = refuses
-    go Overflow e = refuses
+    go Eof e = says _
+    go Overflow e = says _
 
 -- A number that is read at a place is spelled there.
-pub sound-number : (form : Form) (s : List ℕ) → Asks form s → (p : ℕ) → Holds (λ n q. Found s (NumberIn form n) p q) (number form s p)
+pub sound-number : (form : Form) (s : List ℕ) → Asks form s → (p : ℕ) → Says (λ n q. Found s (NumberIn form n) p q) (number form s p)
 unfolding number
 sound-number Any s asks p = sound-any s p
 sound-number Plain s asks p =
     after (sound-any s p) λ n q f.
-    equal q (p + length (shortest n)) _ _ _ λ e.
+    if-equal q (p + length (shortest n)) _ _ _ λ e.
     let bytes : Bytes (f .bytes) = bytes-at (f .at) asks in
     let short : length (f .bytes) ≡ length (shortest n) = omega (arith, f .at .ends) in
     holds (record { bytes = f .bytes; at = f .at; has = (spells-fits (f .has) bytes, none-as-short (f .has) bytes short) })

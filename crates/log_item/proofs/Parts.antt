@@ -1,7 +1,7 @@
 -- What the readers of entries, a tail, a content and an item's head come to: a law for each way out of the code.
 -- Assumes nothing.
-use Prim.Native.Nat.{ℕ, suc, _+_, _-_, _≤_, _<_}
-use mathlib.Core.Path.{_≡_, sym, ap, _∙_}
+use Prim.Native.Nat.{ℕ, zero, suc, _+_, _-_, _≤_, _<_}
+use mathlib.Core.Path.{_≡_, refl, sym, ap}
 use mathlib.Core.List.{List}
 use native.Mathlib.Omega.{arith}
 use borrow.Author.Tests.{le-leb, lt-leb, ne-eqb}
@@ -16,10 +16,6 @@ use Rattle.log_item.specs.declared.EntryIndexes.{EntryIndexes}
 use Rattle.log_item.specs.declared.LogItemContent.{LogItemContent}
 use Rattle.log_item.specs.declared.LogItemContent.the-variants as contents
 
--- what counts down from n
-pub one-more : (n : ℕ) → 0 < n → suc (n - 1) ≡ n
-one-more n h = omega arith
-
 module _ (form : Form) (s : List ℕ) where
   -- ---- the first index
 
@@ -27,34 +23,21 @@ module _ (form : Form) (s : List ℕ) where
   unfolding firstIndex
   first-none p e = rw e
 
-  first-some : (m p i q : ℕ) → number form s p ≡ got i q → i + m ≤ 18446744073709551615
-      → got (record { count = suc m; «first_index» = i }) q ≡ firstIndex form s (suc m) p
+  pub first-refused : (n p : ℕ) → (n ≡ 0 → ⊥) → {r : ℕ} → number form s p ≡ refused r → refused r ≡ firstIndex form s n p
   unfolding firstIndex
-  first-some m p i q e h = rw (e, le-leb _ _ h)
+  first-refused zero p some e = absurd (some refl)
+  first-refused (suc m) p some e = rw e
 
-  first-past : (m p i q : ℕ) → number form s p ≡ got i q → 18446744073709551615 < i + m → refused 17 ≡ firstIndex form s (suc m) p
+  pub first-done : (n p : ℕ) → (n ≡ 0 → ⊥) → {i q : ℕ} → number form s p ≡ got i q → i + (n - 1) ≤ 18446744073709551615
+      → got (record { count = n; «first_index» = i }) q ≡ firstIndex form s n p
   unfolding firstIndex
-  first-past m p i q e h = rw (e, lt-leb _ _ h)
+  first-done zero p some e h = absurd (some refl)
+  first-done (suc m) p some {i} e h = let k : i + m ≤ 18446744073709551615 = omega arith in rw (e, le-leb _ _ k)
 
-  first-short : (m p : ℕ) {r : ℕ} → number form s p ≡ refused r → refused r ≡ firstIndex form s (suc m) p
+  pub first-too-large : (n p : ℕ) → (n ≡ 0 → ⊥) → {i q : ℕ} → number form s p ≡ got i q → 18446744073709551615 < i + (n - 1) → refused 17 ≡ firstIndex form s n p
   unfolding firstIndex
-  first-short m p e = rw e
-
-  module _ (n p : ℕ) (some : n ≡ 0 → ⊥) where
-    more : suc (n - 1) ≡ n
-    more = one-more n (omega arith)
-
-    pub first-refused : {r : ℕ} → number form s p ≡ refused r → refused r ≡ firstIndex form s n p
-    first-refused e = first-short (n - 1) p e ∙ ap (λ m. firstIndex form s m p) more
-
-    module _ {i q : ℕ} (e : number form s p ≡ got i q) where
-      pub first-done : i + (n - 1) ≤ 18446744073709551615 → got (record { count = n; «first_index» = i }) q ≡ firstIndex form s n p
-      first-done h =
-          ap (λ m. got (record { count = m; «first_index» = i }) q) (sym more)
-          ∙ first-some (n - 1) p i q e h ∙ ap (λ m. firstIndex form s m p) more
-
-      pub first-too-large : 18446744073709551615 < i + (n - 1) → refused 17 ≡ firstIndex form s n p
-      first-too-large h = first-past (n - 1) p i q e h ∙ ap (λ m. firstIndex form s m p) more
+  first-too-large zero p some e h = absurd (some refl)
+  first-too-large (suc m) p some {i} e h = let k : 18446744073709551615 < i + m = omega arith in rw (e, lt-leb _ _ k)
 
   -- ---- a count of entries
 
@@ -150,5 +133,5 @@ module _ (form : Form) (s : List ℕ) where
         head-no-content k = rw (e, f, k)
 
 -- What an item's content states, where the content is known.
-pub stated : {c d : LogItemContent} → c ≡ d → entriesOf d ≡ entriesOf c
-stated e = sym (ap entriesOf e)
+pub entries-same : {c d : LogItemContent} → c ≡ d → entriesOf d ≡ entriesOf c
+entries-same e = sym (ap entriesOf e)

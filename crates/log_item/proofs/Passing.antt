@@ -4,17 +4,17 @@
 use Prim.Native.Nat.{ℕ, zero, suc, _+_, _-_, _<_}
 use mathlib.Core.Path.{_≡_, refl, sym, ap, _∙_}
 use mathlib.Core.List.{List, _∷_}
+use native.Mathlib.Omega.{arith}
 use lib.ListN.{length}
 use Rattle.log_item.specs.Got.{Got, got, refused, Reading, done, bind}
-use Rattle.log_item.specs.Entries.{entriesOf}
+use Rattle.log_item.specs.Entries.{entriesOf, tailRow}
 use Rattle.log_item.specs.Reading.{Read, head, tail, tails, oneItem}
 use Rattle.log_item.specs.Answers.{Counted, passItem, passTails}
 use Rattle.log_item.specs.declared.Form.{Form}
 use Rattle.log_item.specs.declared.EntryIndex.{EntryIndex}
 use Rattle.log_item.specs.declared.EntryIndexes.{EntryIndexes}
 use Rattle.log_item.specs.declared.LogItem.{LogItem}
-use Rattle.log_item.proofs.Parts.{one-more}
-use Rattle.log_item.proofs.Holds.{Holds, holds, after, later, only, of-got}
+use Rattle.log_item.proofs.Holds.{Holds, holds, after, later, only, of-got, bind-got}
 
 -- the total alone
 abbrev pub totalOf : Got (List EntryIndex × ℕ) → Got ℕ
@@ -45,8 +45,8 @@ module _ (form : Form) (s : List ℕ) where
   any-index (suc n) i j t p = go (λ w q. any-index n (i + 1) (j + 1) w q) (tail form s t p)
     where
       go : ((w q : ℕ) → totalOf (tails form s n (i + 1) w q) ≡ totalOf (tails form s n (j + 1) w q)) → (g : Got ℕ)
-          → totalOf (bind g (λ w q. bind (tails form s n (i + 1) w q) (λ r. done (record { index = i; «entry_offset» = t; «entry_len» = w - t } ∷ r .0, r .1))))
-          ≡ totalOf (bind g (λ w q. bind (tails form s n (j + 1) w q) (λ r. done (record { index = j; «entry_offset» = t; «entry_len» = w - t } ∷ r .0, r .1))))
+          → totalOf (bind g (λ w q. bind (tails form s n (i + 1) w q) (λ r. done (tailRow i t w ∷ r .0, r .1))))
+          ≡ totalOf (bind g (λ w q. bind (tails form s n (j + 1) w q) (λ r. done (tailRow j t w ∷ r .0, r .1))))
       go ih (got w q) = row-ahead _ (tails form s n (i + 1) w q) ∙ ih w q ∙ sym (row-ahead _ (tails form s n (j + 1) w q))
       go ih (refused r) = refl
 
@@ -60,23 +60,18 @@ module _ (form : Form) (s : List ℕ) where
   unfolding passTails tails
   pass-end t p e = rw e
 
-  pass-suc : (n t p w q : ℕ) → tail form s t p ≡ got w q → totalOf (tails form s (suc n) 0 t p) ≡ totalOf (tails form s n (0 + 1) w q)
+  pub pass-next : (n t p : ℕ) → 0 < n → {w q : ℕ} → tail form s t p ≡ got w q → passTails form s (n - 1) w q ≡ passTails form s n t p
   unfolding tails
-  pass-suc n t p w q e = rw e (row-ahead _ (tails form s n (0 + 1) w q))
+  pass-next zero t p some e = absurd (omega arith)
+  pass-next (suc n) t p some {w} {q} e =
+      let less : suc n - 1 ≡ n = omega arith in
+      let one : totalOf (tails form s (suc n) 0 t p) ≡ totalOf (tails form s n (0 + 1) w q) = rw e (row-ahead _ (tails form s n (0 + 1) w q)) in
+      rw less (sym (total-pass n (0 + 1) w q) ∙ sym one ∙ total-pass (suc n) 0 t p)
 
-  stop-suc : (n t p r : ℕ) → tail form s t p ≡ refused r → totalOf (tails form s (suc n) 0 t p) ≡ refused r
-  unfolding tails
-  stop-suc n t p r e = rw e
-
-  module _ (n t p : ℕ) (some : 0 < n) where
-    pub pass-next : {w q : ℕ} → tail form s t p ≡ got w q → passTails form s (n - 1) w q ≡ passTails form s n t p
-    pass-next {w} {q} e =
-        sym (total-pass (n - 1) (0 + 1) w q) ∙ sym (pass-suc (n - 1) t p w q e) ∙ total-pass (suc (n - 1)) 0 t p
-        ∙ ap (λ m. passTails form s m t p) (one-more n some)
-
-    pub pass-stop : {r : ℕ} → tail form s t p ≡ refused r → refused r ≡ passTails form s n t p
-    pass-stop {r} e =
-        sym (stop-suc (n - 1) t p r e) ∙ total-pass (suc (n - 1)) 0 t p ∙ ap (λ m. passTails form s m t p) (one-more n some)
+  pub pass-stop : (n t p : ℕ) → 0 < n → {r : ℕ} → tail form s t p ≡ refused r → refused r ≡ passTails form s n t p
+  unfolding passTails tails
+  pass-stop zero t p some e = absurd (omega arith)
+  pass-stop (suc n) t p some e = rw e
 
   -- ---- an item
 
@@ -86,13 +81,31 @@ module _ (form : Form) (s : List ℕ) where
   rows-hold zero i t p = holds refl
   rows-hold (suc n) i t p = later (tail form s t p) λ w q. after (rows-hold n (i + 1) w q) λ r z h. holds (ap suc h)
 
-  pub rows-length : (n i t p : ℕ) {r : List EntryIndex × ℕ} {q : ℕ} → tails form s n i t p ≡ got r q → length (r .0) ≡ n
-  rows-length n i t p e = of-got (rows-hold n i t p) e
+  pub as-many-rows : (n i t p : ℕ) {r : List EntryIndex × ℕ} {q : ℕ} → tails form s n i t p ≡ got r q → length (r .0) ≡ n
+  as-many-rows n i t p e = of-got (rows-hold n i t p) e
+
+  -- An item that was got is its head and the rows of its tails.
+  pub item-got : (used t p : ℕ) {y : Read} {z : ℕ} → oneItem form s used t p ≡ got y z
+      → (q : ℕ) × (head form s used p ≡ got (y .item) q)
+      × (tails form s (entriesOf (y .item .content) .count) (entriesOf (y .item .content) .«first_index») t q ≡ got (y .rows, y .total) z)
+  unfolding oneItem
+  item-got used t p {y} {z} e =
+      let h = bind-got (head form s used p) _ e in
+      let c = by-rows (h .0) (tails form s (entriesOf (h .0 .content) .count) (entriesOf (h .0 .content) .«first_index») t (h .1)) (h .3) in
+      rw (c .0) (h .1, h .2, c .1)
+    where
+      by-rows : (x : LogItem) (g : Got (List EntryIndex × ℕ)) → bind g (λ r. done (record { item = x; rows = r .0; total = r .1 })) ≡ got y z
+          → (y .item ≡ x) × (g ≡ got (y .rows, y .total) z)
+      by-rows x (got o w) c =
+          let same : y ≡ record { item = x; rows = o .0; total = o .1 } = cc in
+          let place : w ≡ z = cc in
+          rw (same, place) (refl, refl)
+      by-rows x (refused n) c = let o : _≡_ {A = ℕ} 0 1 = cc in absurd (omega arith)
 
   module _ (used t p : ℕ) where
-    pub item-refused : {r : ℕ} → head form s used p ≡ refused r → refused r ≡ passItem form s used t p
+    pub item-no-head : {r : ℕ} → head form s used p ≡ refused r → refused r ≡ passItem form s used t p
     unfolding passItem oneItem
-    item-refused e = rw e
+    item-no-head e = rw e
 
     module _ {x : LogItem} {q : ℕ} (e : head form s used p ≡ got x q) {d : EntryIndexes} (k : d ≡ entriesOf (x .content)) where
       by-rows : (g : Got (List EntryIndex × ℕ)) → Holds (λ r z. length (r .0) ≡ d .count) g

@@ -18,13 +18,13 @@ use Rattle.log_item.specs.Bytes.{spanBytes, commandBytes, opBytes, entri
 use Rattle.log_item.specs.Private.{Room}
 use Rattle.log_item.proofs.Stores.{room-first}
 
-pub command-clean : {c : Command} → c ≡ Clean → commandBytes c ≡ 1 ∷ []
+pub clean-bytes : {c : Command} → c ≡ Clean → commandBytes c ≡ 1 ∷ []
 unfolding commandBytes
-command-clean p = rw p
+clean-bytes p = rw p
 
-pub command-compact : {c : Command} {i : ℕ} → c ≡ Compact i → commandBytes c ≡ 2 ∷ shortest i
+pub compact-bytes : {c : Command} {i : ℕ} → c ≡ Compact i → commandBytes c ≡ 2 ∷ shortest i
 unfolding commandBytes
-command-compact p = rw p
+compact-bytes p = rw p
 
 pub entries-room : (n i : ℕ) {out : List ℕ} {at : ℕ} → Room out at (entriesBytes n i) → Room out at (shortest n)
 unfolding entriesBytes
@@ -32,23 +32,23 @@ entries-room zero i h = h
 entries-room (suc n) i h = room-first (shortest (suc n)) (shortest i) h
 
 module _ (s : List ℕ) where
-  pub op-put : (key : Span) {o : Op} {v : Span} → o ≡ Put v → opBytes s key o ≡ 1 ∷ (spanBytes s key ++ spanBytes s v)
+  pub put-bytes : (key : Span) {o : Op} {v : Span} → o ≡ Put v → opBytes s key o ≡ 1 ∷ (spanBytes s key ++ spanBytes s v)
   unfolding opBytes
-  op-put key p = rw p
+  put-bytes key p = rw p
 
-  pub op-delete : (key : Span) {o : Op} → o ≡ Del → opBytes s key o ≡ 2 ∷ spanBytes s key
+  pub delete-bytes : (key : Span) {o : Op} → o ≡ Del → opBytes s key o ≡ 2 ∷ spanBytes s key
   unfolding opBytes
-  op-delete key p = rw p
+  delete-bytes key p = rw p
 
   module _ {k : LogItemContent} where
-    pub content-entries : {e : EntryIndexes} → k ≡ contents.EntryIndexes e → typeOf k ∷ contentBytes s k ≡ 1 ∷ entriesBytes (e .count) (e .«first_index»)
+    pub entries-bytes : {e : EntryIndexes} → k ≡ contents.EntryIndexes e → typeOf k ∷ contentBytes s k ≡ 1 ∷ entriesBytes (e .count) (e .«first_index»)
     unfolding contentBytes
-    content-entries p = rw p
+    entries-bytes p = rw p
 
-    pub content-command : {c : Command} → k ≡ contents.Command c → typeOf k ∷ contentBytes s k ≡ 2 ∷ commandBytes c
+    pub command-bytes : {c : Command} → k ≡ contents.Command c → typeOf k ∷ contentBytes s k ≡ 2 ∷ commandBytes c
     unfolding contentBytes
-    content-command p = rw p
+    command-bytes p = rw p
 
-    pub content-key : {v : KeyValue} → k ≡ contents.Kv v → typeOf k ∷ contentBytes s k ≡ 3 ∷ opBytes s (v .key) (v .op)
+    pub key-bytes : {v : KeyValue} → k ≡ contents.Kv v → typeOf k ∷ contentBytes s k ≡ 3 ∷ opBytes s (v .key) (v .op)
     unfolding contentBytes
-    content-key p = rw p
+    key-bytes p = rw p

@@ -12,7 +12,7 @@ use Rattle.words.specs.Byte.{Bytes}
 use Rattle.words.proofs.Bytes.{bytes-front, bytes-drop}
 use Rattle.log_item.specs.Got.{got}
 use Rattle.log_item.specs.Pieces.{byte}
-use Rattle.log_item.proofs.Holds.{Holds, holds, below}
+use Rattle.log_item.proofs.Holds.{Says, holds, if-below}
 use Rattle.log_item.specs.Place.{At}
 
 -- Bytes with others behind them begin them.
@@ -31,16 +31,16 @@ module _ {s : List ℕ} where
       (record { stand = cc (append-assoc x y (drop q s)); ends = refl }, record { stand = e; ends = omega (arith, length-append x y, f .ends) })
 
   -- No bytes stand at every place.
-  pub nothing : (p : ℕ) → At s p p []
-  nothing p = record { stand = refl; ends = omega arith }
+  pub at-nothing : (p : ℕ) → At s p p []
+  at-nothing p = record { stand = refl; ends = omega arith }
 
   -- A place of the list holds its byte.
-  pub one-byte : (p : ℕ) → p < length s → At s p (p + 1) (getD s p 0 ∷ [])
-  one-byte p h = record { stand = rw (add-one, drop-cons s p 0); ends = omega arith }
+  pub at-byte : (p : ℕ) → p < length s → At s p (p + 1) (getD s p 0 ∷ [])
+  at-byte p h = record { stand = rw (add-one, drop-cons s p 0); ends = omega arith }
 
   -- The place after some bytes is in the list.
-  pub inside : {p q : ℕ} {x : List ℕ} → At s p q x → 0 < length x → q ≤ length s
-  inside {p} {q} {x} f some = omega (arith, f .ends, simp (length-drop, length-append) at (ap length (f .stand)))
+  pub at-inside : {p q : ℕ} {x : List ℕ} → At s p q x → 0 < length x → q ≤ length s
+  at-inside {p} {q} {x} f some = omega (arith, f .ends, simp (length-drop, length-append) at (ap length (f .stand)))
 
   -- What stands in a list of bytes is bytes.
   pub bytes-at : {p q : ℕ} {x : List ℕ} → At s p q x → Bytes s → Bytes x
@@ -50,11 +50,11 @@ module _ {s : List ℕ} where
   pub complete-byte : {b p q : ℕ} → At s p q (b ∷ []) → byte s p ≡ got b q
   unfolding byte
   complete-byte {b} {p} {q} f =
-      let h : p < length s = omega (arith, f .ends, inside f (omega arith)) in
+      let h : p < length s = omega (arith, f .ends, at-inside f (omega arith)) in
       let e : q ≡ p + 1 = f .ends in
       rw (lt-ltb _ _ h) (cc (drop-cons s p 0 h, f .stand))
 
 -- A byte that is read at a place stands there.
-pub sound-byte : (s : List ℕ) (p : ℕ) → Holds (λ b q. At s p q (b ∷ [])) (byte s p)
+pub sound-byte : (s : List ℕ) (p : ℕ) → Says (λ b q. At s p q (b ∷ [])) (byte s p)
 unfolding byte
-sound-byte s p = below p (length s) _ _ _ λ h. holds (one-byte p h)
+sound-byte s p = if-below p (length s) _ _ _ λ h. holds (at-byte p h)

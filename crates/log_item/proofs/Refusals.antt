@@ -7,7 +7,7 @@ use mathlib.Core.List.{List}
 use native.Mathlib.Omega.{arith}
 use lib.Dec.{ltb, leb}
 use borrow.Author.Tests.{ltb-false, lt-ltb, le-ltb, leb-true, le-leb, lt-leb}
-use Rattle.refusal.specs.First.{firstOf}
+use Rattle.refusal.proofs.First.{neither-refused, untaken, taken}
 use Rattle.log_item.specs.Entries.{entriesOf}
 use Rattle.log_item.specs.Prefix.{prefix, begins, bytesOf, inside}
 use Rattle.log_item.specs.declared.Span.{Span}
@@ -18,17 +18,8 @@ use Rattle.log_item.specs.declared.Command.{Command}
 use Rattle.log_item.specs.declared.KeyValue.{KeyValue}
 use Rattle.log_item.specs.declared.LogItemContent.{LogItemContent}
 use Rattle.log_item.specs.declared.LogItemContent.the-variants as contents
-use Rattle.log_item.specs.Refusing.{opInside, spanRefusal, contentInside, indexRefusal, entriesRefusal, keyRefusal, contentRefusal}
+use Rattle.log_item.specs.Refusing.{opInside, contentInside, indexRefusal, entriesRefusal, keyRefusal, contentRefusal}
 use Rattle.log_item.specs.Written.{pieceRefusal}
-
--- A test that refuses did not.
-pub untaken : (t : Bool) (r rest : ℕ) → cond t (suc r) rest ≡ 0 → (t ≡ false) × (rest ≡ 0)
-untaken true r rest e = absurd (omega arith)
-untaken false r rest e = (refl, e)
-
-pub taken : (t : Bool) (r rest : ℕ) → cond t rest (suc r) ≡ 0 → (t ≡ true) × (rest ≡ 0)
-taken true r rest e = (refl, e)
-taken false r rest e = absurd (omega arith)
 
 -- 17 in the sum of the first index and the count.
 index-17 : (n i : ℕ) → i ≤ 18446744073709551615 → 18446744073709551616 < i + n → 17 ≡ indexRefusal n i
@@ -97,9 +88,9 @@ module _ (s : List ℕ) (checked : Bool) (key : Span) (op : Op) where
   key-13 h = rw h
 
   module _ (h : opInside s key op ≡ true) where
-    pub key-delete : op ≡ Del → 0 ≡ keyRefusal s checked key op
+    pub delete-fine : op ≡ Del → 0 ≡ keyRefusal s checked key op
     unfolding keyRefusal
-    key-delete e = rw (h, e)
+    delete-fine e = rw (h, e)
 
     pub key-23 : {v : Span} {r : Bool} → op ≡ Put v → r ≡ (checked && begins (bytesOf s key) prefix) → r ≡ true → 23 ≡ keyRefusal s checked key op
     unfolding keyRefusal
@@ -110,17 +101,17 @@ module _ (s : List ℕ) (checked : Bool) (key : Span) (op : Op) where
     key-fine {v} e p q = let z : (checked && begins (bytesOf s key) prefix) ≡ false = sym p ∙ q in rw (h, e, z)
 
 module _ (s : List ℕ) (checked : Bool) (used rows : ℕ) (k : LogItemContent) where
-  pub entries-refused : {e : EntryIndexes} {r : ℕ} → k ≡ contents.EntryIndexes e → r ≡ entriesRefusal used rows e → r ≡ contentRefusal s checked used rows k
+  pub refusal-entries : {e : EntryIndexes} {r : ℕ} → k ≡ contents.EntryIndexes e → r ≡ entriesRefusal used rows e → r ≡ contentRefusal s checked used rows k
   unfolding contentRefusal
-  entries-refused p q = rw p q
+  refusal-entries p q = rw p q
 
-  pub command-refused : {c : Command} → k ≡ contents.Command c → 0 ≡ contentRefusal s checked used rows k
+  pub refusal-command : {c : Command} → k ≡ contents.Command c → 0 ≡ contentRefusal s checked used rows k
   unfolding contentRefusal
-  command-refused p = rw p
+  refusal-command p = rw p
 
-  pub key-refused : {v : KeyValue} {r : ℕ} → k ≡ contents.Kv v → r ≡ keyRefusal s checked (v .key) (v .op) → r ≡ contentRefusal s checked used rows k
+  pub refusal-key : {v : KeyValue} {r : ℕ} → k ≡ contents.Kv v → r ≡ keyRefusal s checked (v .key) (v .op) → r ≡ contentRefusal s checked used rows k
   unfolding contentRefusal
-  key-refused p q = rw p q
+  refusal-key p q = rw p q
 
 -- A piece of an item.
 module _ (lies : Bool) (at n all : ℕ) where
@@ -136,11 +127,6 @@ module _ (lies : Bool) (at n all : ℕ) where
   unfolding pieceRefusal
   piece-fits h k = rw (h, k)
 
--- Spans that are not refused lie in the store, and what follows does not refuse.
-pub all-inside : (b : Bool) (rest : ℕ) → firstOf (spanRefusal b) rest ≡ 0 → (b ≡ true) × (rest ≡ 0)
-all-inside true rest e = (refl, e)
-all-inside false rest e = absurd (omega arith)
-
 module _ (s : List ℕ) (checked : Bool) (used rows : ℕ) where
   -- What holds of the entries of a content that is not refused.
   pub record Allowed (e : EntryIndexes) : Type 0 where
@@ -152,7 +138,7 @@ module _ (s : List ℕ) (checked : Bool) (used rows : ℕ) where
   unfolding contentRefusal keyRefusal
   content-inside (contents.EntryIndexes e) h = refl
   content-inside (contents.Command c) h = refl
-  content-inside (contents.Kv k) h = all-inside (opInside s (k .key) (k .op)) _ h .0
+  content-inside (contents.Kv k) h = taken (opInside s (k .key) (k .op)) 12 0 (neither-refused _ _ h .0) .0
 
   pub content-allowed : (k : LogItemContent) → contentRefusal s checked used rows k ≡ 0 → Allowed (entriesOf k)
   unfolding contentRefusal entriesRefusal

@@ -20,8 +20,8 @@ use Rattle.log_item.specs.Place.{At, Found, Asks, ItemSpelled}
 use Rattle.log_item.specs.Pieces.{span}
 use Rattle.log_item.specs.Reading.{command, putAt, keyValue, firstIndex, entryIndexes, head, tail, tails, oneItem}
 use Rattle.log_item.specs.Reading as reading
-use Rattle.log_item.proofs.Holds.{Holds, holds, refuses, after, at-most, is}
-use Rattle.log_item.proofs.Place.{join, nothing, sound-byte}
+use Rattle.log_item.proofs.Holds.{Says, holds, says, after, if-most, is}
+use Rattle.log_item.proofs.Place.{join, at-nothing, sound-byte}
 use Rattle.log_item.proofs.Numbers.{sound-number}
 use Rattle.log_item.proofs.Complete.{tails-length}
 
@@ -63,11 +63,11 @@ spanned-as N bytes e f h = rw (e, f) (spanned bytes (rw f at h))
 
 module _ (form : Form) (s : List ℕ) (asks : Asks form s) where
   -- A span that is read is spelled.
-  pub sound-span : (p : ℕ) → Holds (λ k q. Found s (Spanned (NumberIn form) k p) p q) (span form s p)
+  pub sound-span : (p : ℕ) → Says (λ k q. Found s (Spanned (NumberIn form) k p) p q) (span form s p)
   unfolding span
   sound-span p =
       after (sound-number form s asks p) λ n a f.
-      at-most (a + n) (length s) _ _ _ λ fits.
+      if-most (a + n) (length s) _ _ _ λ fits.
       let k : n ≡ length (take n (drop a s)) = omega (arith, length-take n (drop a s), length-drop a s) in
       let e : drop a s ≡ take n (drop a s) ++ drop (a + n) s = sym (take-append-drop n (drop a s)) ∙ ap (λ l. take n (drop a s) ++ l) (drop-drop n a s) in
       holds (record {
@@ -77,19 +77,19 @@ module _ (form : Form) (s : List ℕ) (asks : Asks form s) where
       })
 
   -- A tail that is read is spelled, and within the limits.
-  pub sound-tail : (t p : ℕ) → Holds (λ w q. TailSpelled form s t p w q) (tail form s t p)
+  pub sound-tail : (t p : ℕ) → Says (λ w q. TailSpelled form s t p w q) (tail form s t p)
   unfolding tail
   sound-tail t p =
       after (sound-number form s asks p) λ w q f.
-      at-most w 4294967295 _ _ _ λ small.
-      at-most t w _ _ _ λ rises.
+      if-most w 4294967295 _ _ _ λ small.
+      if-most t w _ _ _ λ rises.
       holds (record { found = f; small = small; rises = rises })
 
   -- Tails that are read are spelled, with rows within the limits.
-  pub sound-tails : (n i t p : ℕ) → i + n ≤ 18446744073709551616 → Holds (λ r q. Found s (TailsSpelled form n i t r) p q) (tails form s n i t p)
+  pub sound-tails : (n i t p : ℕ) → i + n ≤ 18446744073709551616 → Says (λ r q. Found s (TailsSpelled form n i t r) p q) (tails form s n i t p)
   unfolding tails
   sound-tails zero i t p h =
-      holds (record { bytes = []; at = nothing p; has = record { tails = no-more; each = every.Each.none } })
+      holds (record { bytes = []; at = at-nothing p; has = record { tails = no-more; each = every.Each.none } })
   sound-tails (suc n) i t p h =
       after (sound-tail t p) λ w a f.
       after (sound-tails n (i + 1) w a (omega arith)) λ r q g.
@@ -103,13 +103,13 @@ module _ (form : Form) (s : List ℕ) (asks : Asks form s) where
       })
 
   -- A count and the first index that is read after it are spelled.
-  sound-first : (e n p a : ℕ) → Found s (NumberIn form n) p a → e + n ≤ 1024 → Holds (λ x q. Content form s e 1 p (content.EntryIndexes x) q) (firstIndex form s n a)
+  sound-first : (e n p a : ℕ) → Found s (NumberIn form n) p a → e + n ≤ 1024 → Says (λ x q. Content form s e 1 p (content.EntryIndexes x) q) (firstIndex form s n a)
   unfolding firstIndex
   sound-first e zero p a f few =
       holds (record { found = record { bytes = f .bytes; at = f .at; has = no-entries (f .has) }; kind = refl; stated = record { few = few; last = omega arith } })
   sound-first e (suc n) p a f few =
       after (sound-number form s asks a) λ i q g.
-      at-most (i + n) 18446744073709551615 _ _ _ λ small.
+      if-most (i + n) 18446744073709551615 _ _ _ λ small.
       holds (record {
         found = record { bytes = f .bytes ++ g .bytes; at = join (f .at) (g .at); has = entries (f .has) (g .has) };
         kind = refl;
@@ -117,21 +117,21 @@ module _ (form : Form) (s : List ℕ) (asks : Asks form s) where
       })
 
   -- A count and first index that are read are spelled.
-  sound-entries : (e p : ℕ) → Holds (λ x q. Content form s e 1 p (content.EntryIndexes x) q) (entryIndexes form s e p)
+  sound-entries : (e p : ℕ) → Says (λ x q. Content form s e 1 p (content.EntryIndexes x) q) (entryIndexes form s e p)
   unfolding entryIndexes
-  sound-entries e p = after (sound-number form s asks p) λ n a f. at-most (e + n) 1024 _ _ _ λ few. sound-first e n p a f few
+  sound-entries e p = after (sound-number form s asks p) λ n a f. if-most (e + n) 1024 _ _ _ λ few. sound-first e n p a f few
 
   -- A command that is read is spelled.
-  sound-command : (p : ℕ) → Holds (λ c q. Found s (Contents (NumberIn form) (content.Command c) p) p q) (command form s p)
+  sound-command : (p : ℕ) → Says (λ c q. Found s (Contents (NumberIn form) (content.Command c) p) p q) (command form s p)
   unfolding command
   sound-command p =
       after (sound-byte s p) λ b a f.
       is b 1 _ _ _ (λ e. holds (record { bytes = 1 ∷ []; at = rw e at f; has = clean }))
       (is b 2 _ _ _ (λ e. after (sound-number form s asks a) λ i q g. holds (record { bytes = 2 ∷ g .bytes; at = join (rw e at f) (g .at); has = compact (g .has) }))
-      refuses)
+      (says _))
 
   -- A put whose key and content are read behind its op is spelled.
-  sound-put : (p a : ℕ) → At s p a (1 ∷ []) → Holds (λ k q. Found s (Contents (NumberIn form) (content.Kv k) p) p q) (putAt form s a)
+  sound-put : (p a : ℕ) → At s p a (1 ∷ []) → Says (λ k q. Found s (Contents (NumberIn form) (content.Kv k) p) p q) (putAt form s a)
   unfolding putAt
   sound-put p a f =
       after (sound-span a) λ k c g.
@@ -143,26 +143,26 @@ module _ (form : Form) (s : List ℕ) (asks : Asks form s) where
       })
 
   -- A put or a delete that is read is spelled.
-  sound-key : (p : ℕ) → Holds (λ k q. Found s (Contents (NumberIn form) (content.Kv k) p) p q) (keyValue form s p)
+  sound-key : (p : ℕ) → Says (λ k q. Found s (Contents (NumberIn form) (content.Kv k) p) p q) (keyValue form s p)
   unfolding keyValue
   sound-key p =
       after (sound-byte s p) λ b a f.
       is b 1 _ _ _ (λ e. sound-put p a (rw e at f))
       (is b 2 _ _ _ (λ e. after (sound-span a) λ k q g.
       holds (record { bytes = 2 ∷ g .bytes; at = join (rw e at f) (g .at); has = delete (rw (f .ends) at (g .has)) }))
-      refuses)
+      (says _))
 
   -- A content that is read is spelled, and has the type that was asked for.
-  sound-content : (e b p : ℕ) → e ≤ 1024 → Holds (λ c q. Content form s e b p c q) (reading.content form s e b p)
+  sound-content : (e b p : ℕ) → e ≤ 1024 → Says (λ c q. Content form s e b p c q) (reading.content form s e b p)
   unfolding reading.content
   sound-content e b p small =
       is b 1 _ _ _ (λ x. after (sound-entries e p) λ c q f. holds (rw (← x) at f))
       (is b 2 _ _ _ (λ x. after (sound-command p) λ c q f. holds (record { found = f; kind = sym x; stated = record { few = omega arith; last = omega arith } }))
       (is b 3 _ _ _ (λ x. after (sound-key p) λ c q f. holds (record { found = f; kind = sym x; stated = record { few = omega arith; last = omega arith } }))
-      refuses))
+      (says _)))
 
   -- An item up to its tails that is read is spelled.
-  sound-head : (e p : ℕ) → e ≤ 1024 → Holds (λ x q. Head form s e p x q) (head form s e p)
+  sound-head : (e p : ℕ) → e ≤ 1024 → Says (λ x q. Head form s e p x q) (head form s e p)
   unfolding head
   sound-head e p small =
       after (sound-number form s asks p) λ g a f.
@@ -178,7 +178,7 @@ module _ (form : Form) (s : List ℕ) (asks : Asks form s) where
       })
 
   -- An item that is read, with e entries and the total t before it, is spelled, with rows within the limits.
-  pub sound-item : (e t p : ℕ) → e ≤ 1024 → Holds (λ r q. Found s (ItemSpelled form e t p r) p q) (oneItem form s e t p)
+  pub sound-item : (e t p : ℕ) → e ≤ 1024 → Says (λ r q. Found s (ItemSpelled form e t p r) p q) (oneItem form s e t p)
   unfolding oneItem
   sound-item e t p small =
       after (sound-head e p small) λ x a f.

@@ -3,11 +3,11 @@
 use Prim.Native.Nat.{ℕ, suc, _+_, _≤_, _<_}
 use mathlib.Core.Path.{_≡_, refl, sym, ap, _∙_}
 use mathlib.Core.Bool.{Bool, true, false}
-use mathlib.Core.List.{List, [], _∷_, _++_}
+use mathlib.Core.List.{List, [], _∷_, _++_, append-assoc}
 use native.Mathlib.Omega.{arith}
 use lib.Dec.{leb}
-use lib.ListN.{length, set, length-append}
-use lib.Seq.{sets, length-sets, sets-eq}
+use lib.ListN.{length, take, drop, set, length-append}
+use lib.Seq.{sets, length-sets, sets-eq, drop-at, length-take-le}
 use borrow.Author.Tests.{le-leb, lt-leb, leb-true, leb-false}
 use Rattle.words.specs.Write.{wroteAt, nextAt, placed}
 use Rattle.words.specs.declared.Wrote.{Wrote}
@@ -15,9 +15,9 @@ use Rattle.words.specs.declared.Wrote.the-variants.{Next, NoRoom}
 use Rattle.words.proofs.Writing.{room-for}
 use Rattle.log_item.specs.declared.PartWrote.the-variants as part
 use Rattle.log_item.specs.Written.{pieceRefusal, PieceWritten}
+use Rattle.log_item.specs.Place.{At}
 use Rattle.log_item.specs.Private.{Room, Stored, fitted}
-use Rattle.log_item.proofs.Refusals.{taken, all-inside}
-use Rattle.refusal.proofs.First.{other-answer}
+use Rattle.refusal.proofs.First.{other-answer, neither-refused, taken}
 
 sets-append : (bs cs out : List ℕ) (at : ℕ) → sets out at (bs ++ cs) ≡ sets (sets out at bs) (at + length bs) cs
 sets-append [] cs out at = let e : at ≡ at + 0 = omega arith in ap (λ (k : ℕ). sets out k cs) e
@@ -55,6 +55,20 @@ room-then {bs = bs} cs p h = record { fits = omega (arith, length-append bs cs, 
 pub room-first : {out : List ℕ} {at : ℕ} (bs cs : List ℕ) → Room out at (bs ++ cs) → Room out at bs
 room-first bs cs h = record { fits = omega (arith, length-append bs cs, h .fits) }
 
+-- Bytes that there is room for are stored where they are placed.
+pub stored-placed : {out later : List ℕ} {at n : ℕ} {bs : List ℕ} → Room out at bs → n ≡ at + length bs → later ≡ placed out at bs → Stored out at bs n later
+stored-placed {out} {later} {at} {n} {bs} h e p = record { after = e; stored = (simp (le-leb _ _ (h .fits)) at p) ∙ sym (sets-eq bs out at (h .fits)) }
+
+-- Bytes that were stored at a place stand there.
+pub stored-stands : {out later : List ℕ} {at n : ℕ} {bs : List ℕ} → Room out at bs → Stored out at bs n later → At later at n bs
+stored-stands {out} {later} {at} {n} {bs} h w =
+    let tail : List ℕ = drop (at + length bs) out in
+    let whole : later ≡ take at out ++ bs ++ tail = w .stored ∙ sets-eq bs out at (h .fits) in
+    let front : length (take at out) ≡ at = length-take-le at out (omega (arith, h .fits)) in
+    let first : drop at later ≡ bs ++ tail = ap (drop at) (whole ∙ append-assoc (take at out) bs tail) ∙ drop-at (take at out) (bs ++ tail) at front in
+    let second : drop n later ≡ tail = ap (drop n) whole ∙ drop-at (take at out ++ bs) tail n (omega (arith, length-append (take at out) bs, w .after)) in
+    record { stand = first ∙ ap (λ (l : List ℕ). bs ++ l) (sym second); ends = w .after }
+
 -- What a call that had room did.
 module _ {out later : List ℕ} {at : ℕ} {bs : List ℕ} {r : Wrote} (h : Room out at bs) (p : (r ≡ wroteAt out at bs) × (later ≡ placed out at bs)) where
   fits : r ≡ Next (at + length bs)
@@ -63,7 +77,7 @@ module _ {out later : List ℕ} {at : ℕ} {bs : List ℕ} {r : Wrote} (h : Room
   pub took : {n : ℕ} → r ≡ Next n → Stored out at bs n later
   took {n} e =
       let f : r ≡ Next (at + length bs) = fits in
-      record { after = cc; stored = (simp (le-leb _ _ (h .fits)) at (p .1)) ∙ sym (sets-eq bs out at (h .fits)) }
+      stored-placed h (cc) (p .1)
 
   pub never-short : {n : ℕ} → r ≡ NoRoom → Stored out at bs n later
   never-short {n} e =
@@ -73,8 +87,7 @@ module _ {out later : List ℕ} {at : ℕ} {bs : List ℕ} {r : Wrote} (h : Room
 
 pub stored-at : {out later : List ℕ} {at next : ℕ} {bs : List ℕ} → Room out at bs → (next ≡ nextAt out at bs) × (later ≡ placed out at bs) → Stored out at bs next later
 unfolding nextAt
-stored-at {out} {later} {at} {next} {bs} h p =
-    record { after = simp (le-leb _ _ (h .fits)) at (p .0); stored = (simp (le-leb _ _ (h .fits)) at (p .1)) ∙ sym (sets-eq bs out at (h .fits)) }
+stored-at h p = stored-placed h (simp (le-leb _ _ (h .fits)) at (p .0)) (p .1)
 
 -- A length, none above the largest number, tells whether bytes fit: no buffer is that long.
 module _ (out bs : List ℕ) (at : ℕ) {n l : ℕ} {r : Bool} (small : length out < 18446744073709551615) (e : length bs ≡ n) (g : l ≡ fitted n) (t : r ≡ leb (at + l) (length out)) where
@@ -111,8 +124,8 @@ module _ (b : Bool) (out bs : List ℕ) (at : ℕ) {d : Bool} {n l r : ℕ} (sma
     pub piece-ready : (b ≡ true) × Room out at bs
     unfolding pieceRefusal
     piece-ready =
-        let p = all-inside b _ (sym same-refusal ∙ z) in
-        (p .0, record { fits = leb-true _ _ (taken (leb (at + length bs) (length out)) 20 0 (p .1) .0) })
+        let p = neither-refused _ _ (sym same-refusal ∙ z) in
+        (taken b 12 0 (p .0) .0, record { fits = leb-true _ _ (taken (leb (at + length bs) (length out)) 20 0 (p .1) .0) })
 
     pub piece-stored : {next : ℕ} {later : List ℕ} → Stored out at bs next later → PieceWritten b bs out at (part.Next next) later
     piece-stored {next} {later} w =

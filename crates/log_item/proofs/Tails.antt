@@ -2,7 +2,6 @@
 -- Assumes nothing.
 use Prim.Native.Nat.{ℕ, _+_, _≤_, _<_}
 use mathlib.Core.Path.{_≡_, refl, sym, ap, _∙_}
-use mathlib.Core.Bool.{Bool, true, false, cond}
 use mathlib.Core.List.{List, [], _∷_, _++_}
 use native.Mathlib.Omega.{arith}
 use native.Mathlib.Numerals.{add-one}
@@ -10,6 +9,7 @@ use lib.Dec.{ltb}
 use lib.ListN.{length, getD, take, drop, length-append, length-take, drop-of-length-le}
 use lib.Seq.{drop-cons, getD-take}
 use borrow.Author.Tests.{ltb-true, ltb-false, lt-ltb, le-ltb}
+use Rattle.refusal.proofs.First.{not-first, not-second}
 use Rattle.numbers.specs.Shortest.{shortest}
 use Rattle.log_item.specs.Bytes.{tailsBytes}
 use Rattle.log_item.specs.Written.{sumOf}
@@ -122,18 +122,10 @@ module _ (lengths : List ℕ) (count : ℕ) (enough : count ≤ length lengths) 
 module _ (lengths : List ℕ) (t : ℕ) {r : TailsSize} (e : r ≡ tailsSize lengths t) where
   pub size-over : r ≡ TooLarge → 4294967295 < sumOf t lengths
   unfolding tailsSize
-  size-over h = go (ltb 4294967295 (sumOf t lengths)) refl (sym h ∙ e)
-    where
-      go : (b : Bool) → ltb 4294967295 (sumOf t lengths) ≡ b → TooLarge ≡ cond b TooLarge (Fine (fitted (length (tailsBytes lengths t))) (sumOf t lengths))
-          → 4294967295 < sumOf t lengths
-      go true p q = ltb-true _ _ p
-      go false p q = let z : _≡_ {A = ℕ} 0 1 = cc in absurd (omega arith)
+  size-over h = ltb-true _ _ (not-second (ltb 4294967295 (sumOf t lengths)) (sym h ∙ e) (λ q. let z : _≡_ {A = ℕ} 0 1 = cc in omega arith) .0)
 
   pub size-fine : {len total : ℕ} → r ≡ Fine len total → (sumOf t lengths ≤ 4294967295) × (len ≡ fitted (length (tailsBytes lengths t))) × (total ≡ sumOf t lengths)
   unfolding tailsSize
-  size-fine {len} {total} h = go (ltb 4294967295 (sumOf t lengths)) refl (sym h ∙ e)
-    where
-      go : (b : Bool) → ltb 4294967295 (sumOf t lengths) ≡ b → Fine len total ≡ cond b TooLarge (Fine (fitted (length (tailsBytes lengths t))) (sumOf t lengths))
-          → (sumOf t lengths ≤ 4294967295) × (len ≡ fitted (length (tailsBytes lengths t))) × (total ≡ sumOf t lengths)
-      go true p q = let z : _≡_ {A = ℕ} 0 1 = cc in absurd (omega arith)
-      go false p q = (ltb-false _ _ p, cc, cc)
+  size-fine {len} {total} h =
+      let p = not-first (ltb 4294967295 (sumOf t lengths)) (sym h ∙ e) (λ q. let z : _≡_ {A = ℕ} 0 1 = cc in omega arith) in
+      (ltb-false _ _ (p .0), cc, cc)

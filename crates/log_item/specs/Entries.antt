@@ -1,6 +1,7 @@
--- The entries that an item states, and the type byte of its content.
+-- The entries that an item states, the row of a tail, and the type byte of a content.
 -- Assumes nothing.
-use Prim.Native.Nat.{ℕ}
+use Prim.Native.Nat.{ℕ, _-_}
+use Rattle.log_item.specs.declared.EntryIndex.{EntryIndex}
 use Rattle.log_item.specs.declared.EntryIndexes.{EntryIndexes}
 use Rattle.log_item.specs.declared.LogItemContent.{LogItemContent}
 use Rattle.log_item.specs.declared.LogItemContent.the-variants as content
@@ -10,6 +11,10 @@ abbrev pub entriesOf : LogItemContent → EntryIndexes
 entriesOf (content.EntryIndexes e) = e
 entriesOf (content.Command c) = record { count = 0; «first_index» = 0 }
 entriesOf (content.Kv k) = record { count = 0; «first_index» = 0 }
+
+-- the row of a tail w, with the index i and the total t before it
+abbrev pub tailRow : ℕ → ℕ → ℕ → EntryIndex
+tailRow i t w = record { index = i; «entry_offset» = t; «entry_len» = w - t }
 
 abbrev pub typeOf : LogItemContent → ℕ
 typeOf (content.EntryIndexes e) = 1

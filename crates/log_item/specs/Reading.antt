@@ -1,12 +1,12 @@
 -- What reading an item at a place answers: its pieces and its checks, in the order of document 01. A refusal is the number of the first check that failed.
 -- Assumes nothing.
-use Prim.Native.Nat.{ℕ, zero, suc, _+_, _-_}
+use Prim.Native.Nat.{ℕ, zero, suc, _+_}
 use mathlib.Core.Bool.{cond}
 use mathlib.Core.List.{List, [], _∷_}
 use lib.Dec.{leb, eqb}
 use Rattle.log_item.specs.Got.{Reading, done, refuse, _>>=_, _>>_, _else_}
 use Rattle.log_item.specs.Pieces.{byte, number, span}
-use Rattle.log_item.specs.Entries.{entriesOf}
+use Rattle.log_item.specs.Entries.{entriesOf, tailRow}
 use Rattle.log_item.specs.declared.Form.{Form}
 use Rattle.log_item.specs.declared.Command.{Command}
 use Rattle.log_item.specs.declared.Command.the-variants.{Clean, Compact}
@@ -93,7 +93,7 @@ module _ (form : Form) (s : List ℕ) where
   tails (suc n) i t = do
     w ← tail t
     (rows, u) ← tails n (i + 1) w
-    done (record { index = i; «entry_offset» = t; «entry_len» = w - t } ∷ rows, u)
+    done (tailRow i t w ∷ rows, u)
 
   -- an item, with e entries and the total t before it
   unfoldable pub oneItem : ℕ → ℕ → Reading Read

@@ -1,13 +1,13 @@
 -- Which bytes spell which item, over any relation of numbers to their spellings: relations, piece by piece, with no reading procedure.
 -- A place counts from the start of the body.
 -- Assumes nothing.
-use Prim.Native.Nat.{ℕ, suc, _+_, _-_, _≤_, _<_, _^_}
+use Prim.Native.Nat.{ℕ, suc, _+_, _≤_, _<_, _^_}
 use mathlib.Core.Path.{_≡_}
 use mathlib.Core.List.{List, [], _∷_, _++_}
 use lib.ListN.{length}
 use Rattle.numbers.specs.Spelling as numbers
 use Rattle.numbers.specs.Shortest.{shortest}
-use Rattle.log_item.specs.Entries.{entriesOf, typeOf}
+use Rattle.log_item.specs.Entries.{entriesOf, tailRow, typeOf}
 use Rattle.log_item.specs.declared.Form.{Form}
 use Rattle.log_item.specs.declared.Form.the-variants.{Any, Plain}
 use Rattle.log_item.specs.declared.Span.{Span}
@@ -20,7 +20,7 @@ use Rattle.log_item.specs.declared.EntryIndex.{EntryIndex}
 
 -- A number in any permitted spelling, or in its shortest alone.
 abbrev pub NumberIn : Form → ℕ → List ℕ → Type 0
-NumberIn Any n bs = numbers.Spells n bs
+NumberIn Any n bs = numbers.SpellsNumber n bs
 NumberIn Plain n bs = (n < 2 ^ 64) × (bs ≡ shortest n)
 
 module _ (Number : ℕ → List ℕ → Type 0) where
@@ -44,7 +44,7 @@ module _ (Number : ℕ → List ℕ → Type 0) where
   pub data Tails : ℕ → ℕ → List EntryIndex → ℕ → ℕ → List ℕ → Type 0 where
     no-more : {i t : ℕ} → Tails 0 i [] t t []
     next : {n i t u w : ℕ} {rows : List EntryIndex} {tail later : List ℕ} → Number w tail → t ≤ w → Tails n (i + 1) rows w u later
-        → Tails (suc n) i (record { index = i; «entry_offset» = t; «entry_len» = w - t } ∷ rows) t u (tail ++ later)
+        → Tails (suc n) i (tailRow i t w ∷ rows) t u (tail ++ later)
 
   -- An item from the place p on, its rows, and the total before and after it: group number, type byte, content, tails.
   pub data OneItem : LogItem → List EntryIndex → ℕ → ℕ → ℕ → List ℕ → Type 0 where

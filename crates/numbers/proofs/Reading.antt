@@ -22,8 +22,8 @@ onto v k Eof = Eof
 onto v k Overflow = Overflow
 
 -- what is left to read after j bytes of the number at a place
-unfoldable pub left : List ℕ → ℕ → ℕ → NumberRead
-left s at j = readFrom (9 - j) (drop (at + j) s) (at + j)
+unfoldable pub leftAfter : List ℕ → ℕ → ℕ → NumberRead
+leftAfter s at j = readFrom (9 - j) (drop (at + j) s) (at + j)
 
 onto-under : (v k b : ℕ) (r : NumberRead) → onto v k (under b r) ≡ onto (v + (b - 128) * 2 ^ k) (k + 7) r
 onto-under v k b (Done n next) =
@@ -49,14 +49,14 @@ empty zero p = refl
 empty (suc room) p = refl
 
 -- no byte is left
-pub left-short : (s : List ℕ) (at j : ℕ) → length s ≤ at + j → left s at j ≡ Eof
-unfolding left
+pub left-short : (s : List ℕ) (at j : ℕ) → length s ≤ at + j → leftAfter s at j ≡ Eof
+unfolding leftAfter
 left-short s at j h = rw (drop-of-length-le s h) (empty (9 - j) (at + j))
 
 -- the next byte has its top bit set
 pub left-more : (s : List ℕ) (at j v : ℕ) → j < 9 → at + j < length s → 128 ≤ getD s (at + j) 0
-    → onto v (7 * j) (left s at j) ≡ onto (v + (getD s (at + j) 0 - 128) * 2 ^ (7 * j)) (7 * (j + 1)) (left s at (j + 1))
-unfolding left
+    → onto v (7 * j) (leftAfter s at j) ≡ onto (v + (getD s (at + j) 0 - 128) * 2 ^ (7 * j)) (7 * (j + 1)) (leftAfter s at (j + 1))
+unfolding leftAfter
 left-more s at j v h hl t =
     let room : 9 - j ≡ suc (9 - (j + 1)) = omega arith in
     let place : suc (at + j) ≡ at + (j + 1) = omega arith in
@@ -65,22 +65,22 @@ left-more s at j v h hl t =
 
 -- the next byte ends the number
 pub left-last : (s : List ℕ) (at j v : ℕ) → j < 9 → at + j < length s → getD s (at + j) 0 < 128
-    → onto v (7 * j) (left s at j) ≡ Done (v + getD s (at + j) 0 * 2 ^ (7 * j)) (at + j + 1)
-unfolding left
+    → onto v (7 * j) (leftAfter s at j) ≡ Done (v + getD s (at + j) 0 * 2 ^ (7 * j)) (at + j + 1)
+unfolding leftAfter
 left-last s at j v h hl t =
     let room : 9 - j ≡ suc (9 - (j + 1)) = omega arith in
     rw (room, step-last (9 - (j + 1)) s (at + j) hl t, ← add-one (at + j))
 
 -- the tenth byte
 pub left-tenth : (s : List ℕ) (at v : ℕ) → at + 9 < length s → getD s (at + 9) 0 ≤ 1
-    → onto v 63 (left s at 9) ≡ Done (v + getD s (at + 9) 0 * 2 ^ 63) (at + 10)
-unfolding left readFrom
+    → onto v 63 (leftAfter s at 9) ≡ Done (v + getD s (at + 9) 0 * 2 ^ 63) (at + 10)
+unfolding leftAfter readFrom
 left-tenth s at v hl t =
     let place : suc (at + 9) ≡ at + 10 = omega arith in
     rw (drop-cons s (at + 9) 0 hl) (simp (le-leb _ _ t, place))
 
-pub left-over : (s : List ℕ) (at v : ℕ) → at + 9 < length s → 1 < getD s (at + 9) 0 → onto v 63 (left s at 9) ≡ Overflow
-unfolding left readFrom
+pub left-over : (s : List ℕ) (at v : ℕ) → at + 9 < length s → 1 < getD s (at + 9) 0 → onto v 63 (leftAfter s at 9) ≡ Overflow
+unfolding leftAfter readFrom
 left-over s at v hl t = rw (drop-cons s (at + 9) 0 hl) (simp (lt-leb _ _ t))
 
 under-onto : (b : ℕ) (r : NumberRead) → under b r ≡ onto (b - 128) 7 r
@@ -97,8 +97,8 @@ pub first-last : (s : List ℕ) (at : ℕ) → at < length s → getD s at 0 < 1
 unfolding readNumber
 first-last s at h t = rw (add-one) (step-last 8 s at h t)
 
-pub first-more : (s : List ℕ) (at : ℕ) → at < length s → 128 ≤ getD s at 0 → readNumber s at ≡ onto (getD s at 0 - 128) 7 (left s at 1)
-unfolding readNumber left
+pub first-more : (s : List ℕ) (at : ℕ) → at < length s → 128 ≤ getD s at 0 → readNumber s at ≡ onto (getD s at 0 - 128) 7 (leftAfter s at 1)
+unfolding readNumber leftAfter
 first-more s at h t = rw (add-one, step-more 8 s at h t) (under-onto (getD s at 0) (readFrom 8 (drop (suc at) s) (suc at)))
 
 -- ---- the same, as the code computes it
@@ -121,23 +121,23 @@ grown-fits v b j h t hv =
     let few : 7 * (j + 1) ≤ 64 = omega arith in
     lt-of-lt-of-le (grown v b j h t hv) (pow-mono few)
 
-module _ (s : List ℕ) (at : ℕ) (r : NumberRead) (j v : ℕ) (e : r ≡ onto v (7 * j) (left s at j)) (b : ℕ) (eb : b ≡ getD s (at + j) 0) (h : j < 9) (hl : at + j < length s) where
+module _ (s : List ℕ) (at : ℕ) (r : NumberRead) (j v : ℕ) (e : r ≡ onto v (7 * j) (leftAfter s at j)) (b : ℕ) (eb : b ≡ getD s (at + j) 0) (h : j < 9) (hl : at + j < length s) where
   pub turn-last : b < 128 → Done (v + (b * 2 ^ (7 * j)) % 2 ^ 64) (at + j + 1) ≡ r
   turn-last t =
       ap (λ (x : ℕ). Done (v + x) (at + j + 1)) (exact b j h t ∙ ap (λ (x : ℕ). x * 2 ^ (7 * j)) eb)
       ∙ sym (e ∙ left-last s at j v h hl (omega arith))
 
-  pub turn-more : 128 ≤ b → b < 256 → r ≡ onto (v + ((b - 128) * 2 ^ (7 * j)) % 2 ^ 64) (7 * (j + 1)) (left s at (j + 1))
+  pub turn-more : 128 ≤ b → b < 256 → r ≡ onto (v + ((b - 128) * 2 ^ (7 * j)) % 2 ^ 64) (7 * (j + 1)) (leftAfter s at (j + 1))
   turn-more t u =
       let small : b - 128 < 128 = omega arith in
       e ∙ left-more s at j v h hl (omega arith)
-      ∙ ap (λ (x : ℕ). onto (v + x) (7 * (j + 1)) (left s at (j + 1)))
+      ∙ ap (λ (x : ℕ). onto (v + x) (7 * (j + 1)) (leftAfter s at (j + 1)))
       (ap (λ (x : ℕ). (x - 128) * 2 ^ (7 * j)) (sym eb) ∙ sym (exact (b - 128) j h small))
 
-pub turn-short : (s : List ℕ) (at : ℕ) (r : NumberRead) (j v : ℕ) → r ≡ onto v (7 * j) (left s at j) → length s ≤ at + j → Eof ≡ r
+pub turn-short : (s : List ℕ) (at : ℕ) (r : NumberRead) (j v : ℕ) → r ≡ onto v (7 * j) (leftAfter s at j) → length s ≤ at + j → Eof ≡ r
 turn-short s at r j v e h = sym (e ∙ ap (onto v (7 * j)) (left-short s at j h))
 
-module _ (s : List ℕ) (at : ℕ) (r : NumberRead) (v : ℕ) (e : r ≡ onto v 63 (left s at 9)) (b : ℕ) (eb : b ≡ getD s (at + 9) 0) (hl : at + 9 < length s) where
+module _ (s : List ℕ) (at : ℕ) (r : NumberRead) (v : ℕ) (e : r ≡ onto v 63 (leftAfter s at 9)) (b : ℕ) (eb : b ≡ getD s (at + 9) 0) (hl : at + 9 < length s) where
   pub turn-over : 1 < b → Overflow ≡ r
   turn-over t = sym (e ∙ left-over s at v hl (omega arith))
 
@@ -146,7 +146,7 @@ module _ (s : List ℕ) (at : ℕ) (r : NumberRead) (v : ℕ) (e : r ≡ onto v 
       let x : (b * 2 ^ 63) % 2 ^ 64 ≡ getD s (at + 9) 0 * 2 ^ 63 = omega arith in
       ap (λ (x : ℕ). Done (v + x) (at + 10)) x ∙ sym (e ∙ left-tenth s at v hl (omega arith))
 
-pub first-long : (s : List ℕ) (at b : ℕ) → at < length s → b ≡ getD s at 0 → 128 ≤ b → readNumber s at ≡ onto (b - 128) (7 * 1) (left s at 1)
+pub first-long : (s : List ℕ) (at b : ℕ) → at < length s → b ≡ getD s at 0 → 128 ≤ b → readNumber s at ≡ onto (b - 128) (7 * 1) (leftAfter s at 1)
 first-long s at b h e t = rw e (first-more s at h (omega arith))
 
 pub first-one : (s : List ℕ) (at b : ℕ) → at < length s → b ≡ getD s at 0 → b < 128 → Done b (at + 1) ≡ readNumber s at

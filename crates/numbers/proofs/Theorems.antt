@@ -15,7 +15,7 @@ use lib.Seq.{drop-append-seam}
 use Rattle.words.specs.Byte.{Bytes}
 use Rattle.words.proofs.Bytes.{as-long}
 use Rattle.numbers.specs.declared.NumberRead.the-variants.{Done}
-use Rattle.numbers.specs.Spelling.{Spells, Stands}
+use Rattle.numbers.specs.Spelling.{SpellsNumber, Stands}
 use Rattle.numbers.specs.Number.{readNumber, readFrom}
 use Rattle.numbers.specs.Shortest.{shortest, statedLength}
 use Rattle.numbers.proofs.Spelled.{read-groups, read-head, groups-pos}
@@ -41,7 +41,7 @@ read-iff-stands s at n next = (to, from)
     from h = rw (h .there, h .after) (read-groups 9 (h .spells .groups) (h .spells .few) (h .spells .tenth) (h .rest) at)
 
 -- Of two spellings that begin the same bytes, number and bytes are equal.
-pub one-spelling : {n m : ℕ} {bs cs : List ℕ} (r t : List ℕ) → Spells n bs → Spells m cs → bs ++ r ≡ cs ++ t → (n ≡ m) × (bs ≡ cs)
+pub one-spelling : {n m : ℕ} {bs cs : List ℕ} (r t : List ℕ) → SpellsNumber n bs → SpellsNumber m cs → bs ++ r ≡ cs ++ t → (n ≡ m) × (bs ≡ cs)
 one-spelling {n} {m} {bs} {cs} r t hb hc e =
     let rb = read-groups 9 (hb .groups) (hb .few) (hb .tenth) r 0 in
     let rc = read-groups 9 (hc .groups) (hc .few) (hc .tenth) t 0 in
@@ -61,22 +61,22 @@ read-moves s at n next e =
     (omega arith, omega arith)
 
 -- The shortest form of a 64-bit number spells it.
-pub shortest-spells : (n : ℕ) → n < 2 ^ 64 → Spells n (shortest n)
+pub shortest-spells : (n : ℕ) → n < 2 ^ 64 → SpellsNumber n (shortest n)
 unfolding shortest
 shortest-spells n h = let g = spell-good 9 n h in record { groups = g .groups; few = g .few; tenth = g .tenth }
 
 -- No spelling of the number in bytes is shorter.
-pub none-shorter : {n : ℕ} {bs : List ℕ} → Spells n bs → Bytes bs → length (shortest n) ≤ length bs
+pub none-shorter : {n : ℕ} {bs : List ℕ} → SpellsNumber n bs → Bytes bs → length (shortest n) ≤ length bs
 unfolding shortest
 none-shorter h byte = spell-least 9 (h .groups) byte
 
 -- A spelling of the number in bytes that is as short as the shortest is the shortest.
-pub none-as-short : {n : ℕ} {bs : List ℕ} → Spells n bs → Bytes bs → length bs ≡ length (shortest n) → bs ≡ shortest n
+pub none-as-short : {n : ℕ} {bs : List ℕ} → SpellsNumber n bs → Bytes bs → length bs ≡ length (shortest n) → bs ≡ shortest n
 unfolding shortest
 none-as-short h byte e = spell-only 9 (h .groups) byte e
 
 -- What bytes spell fits 64 bits.
-pub spells-fits : {n : ℕ} {bs : List ℕ} → Spells n bs → Bytes bs → n < 2 ^ 64
+pub spells-fits : {n : ℕ} {bs : List ℕ} → SpellsNumber n bs → Bytes bs → n < 2 ^ 64
 spells-fits h byte = groups-fit 9 (h .groups) (h .few) (h .tenth) byte
 
 -- Its length is 70 minus the leading zeros of (number OR 1), divided by 7, rounded down.

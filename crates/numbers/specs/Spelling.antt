@@ -11,7 +11,7 @@ pub data Groups : ℕ → List ℕ → Type 0 where
   more : {b n : ℕ} {bs : List ℕ} → 128 ≤ b → Groups n bs → Groups (b - 128 + 128 * n) (b ∷ bs)
 
 -- The bytes spell the number: at most ten of them, and a tenth, which stands at place 9, is 0 or 1.
-pub record Spells (n : ℕ) (bs : List ℕ) : Type 0 where
+pub record SpellsNumber (n : ℕ) (bs : List ℕ) : Type 0 where
   pub groups : Groups n bs
   pub few : length bs ≤ 10
   pub tenth : getD bs 9 0 ≤ 1
@@ -20,6 +20,6 @@ pub record Spells (n : ℕ) (bs : List ℕ) : Type 0 where
 pub record Stands (s : List ℕ) (at n next : ℕ) : Type 0 where
   pub bytes : List ℕ
   pub rest : List ℕ
-  pub spells : Spells n bytes
+  pub spells : SpellsNumber n bytes
   pub there : drop at s ≡ bytes ++ rest
   pub after : next ≡ at + length bytes

@@ -32,13 +32,13 @@ mark-word e h = rw e h
 
 -- ---- a batch
 
-pub batch-accepted : {c : BodyCheck} {m n u q : ℕ} (body block : Span) → c ≡ check.Accepted m n u q
+pub reply-accepted : {c : BodyCheck} {m n u q : ℕ} (body block : Span) → c ≡ check.Accepted m n u q
     → reply 0 (0 ∷ m ∷ n ∷ u ∷ q ∷ body .at ∷ body .len ∷ block .at ∷ block .len ∷ []) ≡ batchReply c body block
-batch-accepted body block e = rw e
+reply-accepted body block e = rw e
 
-pub batch-refused : {c : BodyCheck} {r : Refusal} (body block : Span) → c ≡ check.Refused r
+pub reply-refused : {c : BodyCheck} {r : Refusal} (body block : Span) → c ≡ check.Refused r
     → reply (r .number) (r .item ∷ 0 ∷ 0 ∷ 0 ∷ 0 ∷ 0 ∷ 0 ∷ 0 ∷ 0 ∷ []) ≡ batchReply c body block
-batch-refused body block e = rw e
+reply-refused body block e = rw e
 
 -- ---- the block that a queue names
 
@@ -76,11 +76,11 @@ module _ (row store : List ℕ) {r : ItemRowRead}
   unfolding itemOfRow
   first-row = e
 
-  pub row-refused : {n : ℕ} → r ≡ Refused n → reply n (0 ∷ 0 ∷ []) ≡ rowStatus (itemOfRow row 0) store
+  pub status-refused : {n : ℕ} → r ≡ Refused n → reply n (0 ∷ 0 ∷ []) ≡ rowStatus (itemOfRow row 0) store
   unfolding rowStatus
-  row-refused h = rw (sym first-row ∙ h)
+  status-refused h = rw (sym first-row ∙ h)
 
-  pub row-marked : {x : LogItem} {a : Reply} {s : StatusRead} → r ≡ Item x → s ≡ statusOf (x .«raft_group_id») (x .content) store → a ≡ statusReply s
+  pub status-marked : {x : LogItem} {a : Reply} {s : StatusRead} → r ≡ Item x → s ≡ statusOf (x .«raft_group_id») (x .content) store → a ≡ statusReply s
       → a ≡ rowStatus (itemOfRow row 0) store
   unfolding rowStatus
-  row-marked h k f = rw (sym first-row ∙ h) (f ∙ ap statusReply k)
+  status-marked h k f = rw (sym first-row ∙ h) (f ∙ ap statusReply k)

@@ -17,7 +17,7 @@ use Rattle.log_batch.specs.declared.Wanted.{Wanted}
 use Rattle.log_batch.specs.declared.Wanted.the-variants.{Free, Exactly}
 use Rattle.log_batch.specs.Reading.{Answer, accepted, rejected, readItems}
 use Rattle.log_batch.specs.Answers.{checkOf}
-use Rattle.log_batch.proofs.Checking.{told}
+use Rattle.log_batch.proofs.Checking.{acceptance-told}
 use Rattle.log_batch.specs.Total.{agreeing}
 use Rattle.rows_reader.specs.Lent.{Filled, RowsRead}
 use Rattle.rows_reader.specs.Private.{Fits}
@@ -53,17 +53,17 @@ pub record Agreed (a b : Answer) (m n u q : ℕ) : Type 0 where
 module _ (wanted : Wanted) (a : Answer) {m n u q : ℕ} (e : Accepted m n u q ≡ checkOf a) where
   pub agreed-free : wanted ≡ Free → Agreed a (agreeing wanted a) m n u q
   agreed-free h =
-      let t = told a e in
+      let t = acceptance-told a e in
       record { xs = t .0; rows = t .1; reads = t .2; agrees = rw h (t .2); many = t .3; used = t .4 }
 
   module _ {k : ℕ} (h : wanted ≡ Exactly k) where
     pub agreed-same : u ≡ k → Agreed a (agreeing wanted a) m n u q
     agreed-same same =
-        let t = told a e in
+        let t = acceptance-told a e in
         record { xs = t .0; rows = t .1; reads = t .2; agrees = ap (agreeing wanted) (t .2) ∙ rw (h, eq-eqb u k same); many = t .3; used = t .4 }
 
     pub differs : (u ≡ k → ⊥) → agreeing wanted a ≡ rejected 20 0
-    differs other = rw (h, told a e .2, ne-eqb u k other)
+    differs other = rw (h, acceptance-told a e .2, ne-eqb u k other)
 
 -- ---- the rows that are lent
 

@@ -17,16 +17,16 @@ use Rattle.rows_reader.specs.Private.{Words}
 use Rattle.item_row.specs.Row.{commandWords, keyWords, contentWords, itemWords}
 
 module _ (l : List ℕ) (at a b c : ℕ) where
-  pub three : Words l at (a ∷ b ∷ c ∷ []) (set (set (set l at a) (at + 1) b) (at + 2) c)
-  three =
+  pub words-three : Words l at (a ∷ b ∷ c ∷ []) (set (set (set l at a) (at + 1) b) (at + 2) c)
+  words-three =
       let p : at + 1 ≡ suc at = omega arith in
       let q : at + 2 ≡ suc (suc at) = omega arith in
       record { stored = rw (p, q) }
 
-  pub seven : (d e f g : ℕ)
+  pub words-seven : (d e f g : ℕ)
       → Words l at (a ∷ b ∷ c ∷ d ∷ e ∷ f ∷ g ∷ [])
       (set (set (set (set (set (set (set l at a) (at + 1) b) (at + 2) c) (at + 3) d) (at + 4) e) (at + 5) f) (at + 6) g)
-  seven d e f g =
+  words-seven d e f g =
       let p : at + 1 ≡ suc at = omega arith in
       let q : at + 2 ≡ suc (suc at) = omega arith in
       let r : at + 3 ≡ suc (suc (suc at)) = omega arith in
@@ -37,15 +37,15 @@ module _ (l : List ℕ) (at a b c : ℕ) where
 
 module _ {rows later : List ℕ} {at : ℕ} where
   module _ {group : ℕ} (kv : KeyValue) where
-    pub key-put : {v : Span} → kv .op ≡ Put v → Words rows at (group ∷ 3 ∷ 1 ∷ kv .key .at ∷ kv .key .len ∷ v .at ∷ v .len ∷ []) later
+    pub put-words : {v : Span} → kv .op ≡ Put v → Words rows at (group ∷ 3 ∷ 1 ∷ kv .key .at ∷ kv .key .len ∷ v .at ∷ v .len ∷ []) later
         → Words rows at (group ∷ keyWords (kv .key) (kv .op)) later
     unfolding keyWords
-    key-put e f = rw e f
+    put-words e f = rw e f
 
-    pub key-delete : kv .op ≡ Del → Words rows at (group ∷ 3 ∷ 2 ∷ kv .key .at ∷ kv .key .len ∷ 0 ∷ 0 ∷ []) later
+    pub delete-words : kv .op ≡ Del → Words rows at (group ∷ 3 ∷ 2 ∷ kv .key .at ∷ kv .key .len ∷ 0 ∷ 0 ∷ []) later
         → Words rows at (group ∷ keyWords (kv .key) (kv .op)) later
     unfolding keyWords
-    key-delete e f = rw e f
+    delete-words e f = rw e f
 
   module _ (x : LogItem) where
     pub item-entries : {e : EntryIndexes} → x .content ≡ contents.EntryIndexes e

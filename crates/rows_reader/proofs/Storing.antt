@@ -18,7 +18,7 @@ use Rattle.numbers.specs.declared.NumberRead.{NumberRead}
 use Rattle.numbers.specs.declared.NumberRead.the-variants.{Done}
 use Rattle.numbers.proofs.NumberRead.{the-type}
 use Rattle.log_item.specs.Got.{got, refused}
-use Rattle.log_item.specs.Entries.{entriesOf}
+use Rattle.log_item.specs.Entries.{entriesOf, tailRow}
 use Rattle.log_item.specs.Reading.{head, tail}
 use Rattle.log_item.specs.Blank.{blankItem, blankEntry}
 use Rattle.log_item.specs.declared.Form.the-variants.{Any}
@@ -26,15 +26,15 @@ use Rattle.log_item.specs.declared.LogItem.{LogItem}
 use Rattle.log_item.specs.declared.EntryIndex.{EntryIndex}
 use Rattle.log_item.specs.declared.EntryIndexes.{EntryIndexes}
 use Rattle.item_row.specs.Row.{itemWords, entryWords, itemsWords, entriesWords}
-use Rattle.item_row.proofs.Words.{item-length, items-length, entries-length, flat-more}
+use Rattle.item_row.proofs.Words.{item-words-length, items-words-length, entries-words-length, flat-more}
 use Rattle.log_item.specs.Private.{Stored}
 use Rattle.log_item.proofs.Stores.{stored-none, stored-then, stored-length, stored-same}
 use Rattle.log_item.proofs.Smallest.{number-any, number-broken}
 use Rattle.log_batch.specs.Reading.{Answer, accepted, rejected, readItems}
 use Rattle.log_batch.proofs.Checking.{count-broken, count-many}
 use Rattle.log_batch.proofs.Rows.{rows-take, rows-length}
-use Rattle.log_batch.proofs.Coming.{prepend, rowOf, rest}
-use Rattle.log_batch.proofs.Filling.{Filling, not-done, begun, next-row, row-refused, ended, next-item, item-refused}
+use Rattle.log_batch.proofs.Coming.{prepend, rest}
+use Rattle.log_batch.proofs.Filling.{Filling, not-done, begun, next-row, filling-row-refused, ended, next-item, filling-item-refused}
 use Rattle.rows_reader.specs.Lent.{Filled}
 use Rattle.rows_reader.specs.Private.{Words, Fits}
 
@@ -96,15 +96,15 @@ module _ {s items₀ entries₀ : List ℕ} (f : Fits s items₀ entries₀) whe
       }
 
   module _ {k : ℕ} {items entries : List ℕ} {i j p t n index : ℕ} (w : Storing s items₀ entries₀ k items entries i j p t n index) where
-    pub same-items : length items ≡ length items₀
-    same-items = stored-length (w .item-rows)
+    pub items-as-long : length items ≡ length items₀
+    items-as-long = stored-length (w .item-rows)
 
-    pub same-entries : length entries ≡ length entries₀
-    same-entries = stored-length (w .entry-rows)
+    pub entries-as-long : length entries ≡ length entries₀
+    entries-as-long = stored-length (w .entry-rows)
 
     module _ (some : 0 < n) where
       pub row-never : {A : Type 0} {r : ℕ} → tail Any s t p ≡ refused r → A
-      row-never e = never f (row-refused (w .filling) some e)
+      row-never e = never f (filling-row-refused (w .filling) some e)
 
       module _ {u q : ℕ} (e : tail Any s t p ≡ got u q) where
         pub row-room : j * 3 + 3 ≤ length entries
@@ -112,22 +112,22 @@ module _ {s items₀ entries₀ : List ℕ} (f : Fits s items₀ entries₀) whe
             let g = next-row (w .filling) some {other = (index + 1) % 2 ^ 64} e refl in
             let h = in-front _ _ (rest s k i (j + 1) q u (n - 1) ((index + 1) % 2 ^ 64)) (g .so-far ∙ f .reads) in
             let l = rows-length (g .filled-rows) (omega (arith, w .filling .room)) in
-            omega (arith, h .1, f .entry-room, same-entries)
+            omega (arith, h .1, f .entry-room, entries-as-long)
 
         pub storing-row : {other : ℕ} {later : List ℕ} → other ≡ (index + 1) % 2 ^ 64 → Words entries (j * 3) (index ∷ t ∷ (u - t) ∷ []) later
             → Storing s items₀ entries₀ k items later i (j + 1) q u (n - 1) other
         unfolding entryWords
         storing-row {other} {later} h l =
             let below : j < 1024 = omega (arith, w .filling .room) in
-            let one : Stored entries (j * 3) (entryWords (rowOf index t u)) ((j + 1) * 3) later = record { after = omega arith; stored = l .stored } in
+            let one : Stored entries (j * 3) (entryWords (tailRow index t u)) ((j + 1) * 3) later = record { after = omega arith; stored = l .stored } in
             record {
               table = w .table;
-              lines = set (w .lines) j (rowOf index t u);
+              lines = set (w .lines) j (tailRow index t u);
               filling = next-row (w .filling) some e h;
               item-rows = w .item-rows;
               entry-rows =
                   stored-same
-                  (ap entriesWords (rows-take (w .filling .filled-rows) (rowOf index t u) below) ∙ flat-more entryWords (take j (w .lines)) (rowOf index t u))
+                  (ap entriesWords (rows-take (w .filling .filled-rows) (tailRow index t u) below) ∙ flat-more entryWords (take j (w .lines)) (tailRow index t u))
                   (stored-then (w .entry-rows) one);
             }
 
@@ -139,13 +139,13 @@ module _ {s items₀ entries₀ : List ℕ} (f : Fits s items₀ entries₀) whe
           let a : take i (w .table) ≡ f .xs = cc in
           let b : take j (w .lines) ≡ f .rows = cc in
           record {
-            item-rows = rw e (whole (w .item-rows) (omega (arith, f .item-room, items-length (take i (w .table)), ap length a)));
-            entry-rows = rw e (whole (w .entry-rows) (omega (arith, f .entry-room, entries-length (take j (w .lines)), ap length b)));
+            item-rows = rw e (whole (w .item-rows) (omega (arith, f .item-room, items-words-length (take i (w .table)), ap length a)));
+            entry-rows = rw e (whole (w .entry-rows) (omega (arith, f .entry-room, entries-words-length (take j (w .lines)), ap length b)));
           }
 
       module _ (some : i < k) where
         pub item-never : {A : Type 0} {r : ℕ} → head Any s j p ≡ refused r → A
-        item-never e = never f (item-refused (w .filling) done some e)
+        item-never e = never f (filling-item-refused (w .filling) done some e)
 
         module _ {x : LogItem} {q : ℕ} {d : EntryIndexes} (e : head Any s j p ≡ got x q) (h : d ≡ entriesOf (x .content)) where
           pub item-room : i * 7 + 7 ≤ length items
@@ -153,13 +153,13 @@ module _ {s items₀ entries₀ : List ℕ} (f : Fits s items₀ entries₀) whe
               let g = next-item (w .filling) done some e h in
               let a = in-front _ _ (rest s k (i + 1) j q t (d .count) (d .«first_index»)) (g .so-far ∙ f .reads) in
               let l = rows-length (g .filled-items) (omega (arith, w .filling .few)) in
-              omega (arith, a .0, f .item-room, same-items)
+              omega (arith, a .0, f .item-room, items-as-long)
 
           pub storing-item : {later : List ℕ} → Words items (i * 7) (itemWords x) later
               → Storing s items₀ entries₀ k later entries (i + 1) j q t (d .count) (d .«first_index»)
           storing-item {later} l =
               let below : i < 256 = omega (arith, w .filling .few) in
-              let one : Stored items (i * 7) (itemWords x) ((i + 1) * 7) later = record { after = omega (arith, item-length x); stored = l .stored } in
+              let one : Stored items (i * 7) (itemWords x) ((i + 1) * 7) later = record { after = omega (arith, item-words-length x); stored = l .stored } in
               record {
                 table = set (w .table) i x;
                 lines = w .lines;

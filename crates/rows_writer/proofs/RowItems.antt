@@ -75,8 +75,8 @@ module _ (words : List ℕ) where
       record { number = b .number; told = ap (itemOfRow words) z ∙ b .told }
 
   -- No row before the end is none.
-  pub row-never : {A : Type 0} {r : ℕ} (i : ℕ) → i < length (rowItems words) → itemOfRow words i ≡ Refused r → A
-  row-never i h e =
+  pub item-row-never : {A : Type 0} {r : ℕ} (i : ℕ) → i < length (rowItems words) → itemOfRow words i ≡ Refused r → A
+  item-row-never i h e =
       let f = row-good i h in
       let z : _≡_ {A = ℕ} 0 1 = cc in
       absurd (omega arith)
@@ -99,7 +99,7 @@ module _ (words : List ℕ) where
     row-ends {r} e = go (ltb i (length (rowItems words))) refl
       where
         go : (b : Bool) → ltb i (length (rowItems words)) ≡ b → length (rowItems words) ≡ i
-        go true h = row-never i (ltb-true i (length (rowItems words)) h) e
+        go true h = item-row-never i (ltb-true i (length (rowItems words)) h) e
         go false h = let l = ltb-false i (length (rowItems words)) h in omega arith
 
   pub row-item : (i : ℕ) → i < length (rowItems words) → {x : LogItem} → itemOfRow words i ≡ Item x → getD (rowItems words) i blankItem ≡ x
@@ -119,16 +119,16 @@ module _ (words : List ℕ) where
       let z : j + 1 + k ≡ j + suc k = omega arith in
       from-word n (j + 1) k (omega arith) ∙ ap (λ (m : ℕ). getD words (m * 3 + 2) 0) z
 
-  pub lengths-length : length (entryLengths words) ≡ entryRowCount words
+  pub entry-lengths-length : length (entryLengths words) ≡ entryRowCount words
   unfolding entryLengths
-  lengths-length = from-length (entryRowCount words) 0
+  entry-lengths-length = from-length (entryRowCount words) 0
 
-  pub length-at : (j : ℕ) → j < length (entryLengths words) → getD (entryLengths words) j 0 ≡ getD words (j * 3 + 2) 0
+  pub entry-length-at : (j : ℕ) → j < length (entryLengths words) → getD (entryLengths words) j 0 ≡ getD words (j * 3 + 2) 0
   unfolding entryLengths
-  length-at j h =
+  entry-length-at j h =
       let z : 0 + j ≡ j = omega arith in
       from-word (entryRowCount words) 0 j (omega (arith, from-length (entryRowCount words) 0)) ∙ ap (λ (m : ℕ). getD words (m * 3 + 2) 0) z
 
   -- There are three words of each.
   pub words-there : (j : ℕ) → j < length (entryLengths words) → j * 3 + 3 ≤ length words
-  words-there j h = omega (arith, lengths-length)
+  words-there j h = omega (arith, entry-lengths-length)

@@ -2,12 +2,13 @@
 -- Assumes nothing.
 use Prim.Native.Nat.{ℕ, _≤_, _<_}
 use mathlib.Core.Path.{_≡_, refl, sym, ap, _∙_}
-use mathlib.Core.Bool.{Bool, true, false, cond}
+use mathlib.Core.Bool.{Bool}
 use mathlib.Core.List.{List}
 use native.Mathlib.Omega.{arith}
 use lib.Dec.{ltb, eqb}
 use lib.ListN.{length}
 use borrow.Author.Tests.{lt-ltb, le-ltb, eq-eqb, ne-eqb, eqb-true, ltb-false}
+use Rattle.refusal.proofs.First.{not-second}
 use Rattle.item_row.specs.declared.ItemRowRead.the-variants.{Refused}
 use Rattle.item_row.specs.Row.{itemRowCount, itemOfRow}
 use Rattle.numbers.specs.Shortest.{shortest}
@@ -15,9 +16,10 @@ use Rattle.list_measure.specs.declared.Measured.{Measured}
 use Rattle.list_measure.specs.Bytes.{listBytes}
 use Rattle.list_measure.specs.Refusing.{Verdict, fine, refused, itemsVerdict, listVerdict}
 use Rattle.list_measure.specs.Answers.{measured, measuredOf, measureOf}
-use Rattle.rows_writer.specs.Rows.{rowItems, entryLengths, rowNumber, thenRow, rowsVerdict, measureRows}
+use Rattle.rows_writer.specs.Rows.{rowItems, entryLengths, thenRow, rowsVerdict, measureRows}
 use Rattle.rows_writer.proofs.RowItems.{items-few, row-ends}
-use Rattle.list_measure.proofs.Measuring.{Measuring, told-all, measuring-end}
+use Rattle.list_measure.proofs.Heads.{cond-fine}
+use Rattle.list_measure.proofs.Measuring.{Measuring, sized-where, told-all, measuring-end}
 
 module _ (s : List ℕ) (checked : Bool) (items entries : List ℕ) where
   pub rows-many : 256 < itemRowCount items → measured 9 0 0 0 ≡ measureRows s checked items entries
@@ -25,10 +27,10 @@ module _ (s : List ℕ) (checked : Bool) (items entries : List ℕ) where
   rows-many h = rw (lt-ltb 256 (itemRowCount items) h)
 
   module _ (few : itemRowCount items ≤ 256) where
-    pub rows-refused : {n k : ℕ} → itemsVerdict s checked (rowItems items) (entryLengths entries) 0 0 0 ≡ refused n k
+    pub rows-item-refused : {n k : ℕ} → itemsVerdict s checked (rowItems items) (entryLengths entries) 0 0 0 ≡ refused n k
         → measured n k 0 0 ≡ measureRows s checked items entries
     unfolding measureRows rowsVerdict measuredOf
-    rows-refused e = rw (le-ltb 256 (itemRowCount items) few, e)
+    rows-item-refused e = rw (le-ltb 256 (itemRowCount items) few, e)
 
     pub rows-bad : {t i r : ℕ} → itemsVerdict s checked (rowItems items) (entryLengths entries) 0 0 0 ≡ fine t → length (rowItems items) ≡ i → i < itemRowCount items
         → itemOfRow items i ≡ Refused r → measured r i 0 0 ≡ measureRows s checked items entries
@@ -52,28 +54,17 @@ module _ (s : List ℕ) (checked : Bool) (items entries : List ℕ) where
   -- A length that is not 0 tells that each row is an item.
   pub rows-accepted : {m : Measured} → m ≡ measureRows s checked items entries → (m .length ≡ 0 → ⊥)
       → (length (rowItems items) ≡ itemRowCount items) × (m ≡ measureOf s checked (rowItems items) (entryLengths entries))
-  unfolding measureRows rowsVerdict measuredOf
-  rows-accepted {m} e h = let p = first (ltb 256 (itemRowCount items)) refl e in (p .1, e ∙ sym (rows-all (p .0) (p .1)))
+  unfolding measureRows rowsVerdict
+  rows-accepted {m} e h =
+      let v = sized-where _ (length (listBytes s (rowItems items) (entryLengths entries))) e h .told in
+      let k = cond-fine (ltb 256 (itemRowCount items)) 9 0 (thenRow items (length (rowItems items)) (itemsVerdict s checked (rowItems items) (entryLengths entries) 0 0 0)) _ v in
+      let same = go (itemsVerdict s checked (rowItems items) (entryLengths entries) 0 0 0) (k .1) in
+      (same, e ∙ sym (rows-all (ltb-false 256 (itemRowCount items) (k .0)) same))
     where
-      k : ℕ
-      k = length (rowItems items)
-
-      n : ℕ
-      n = length (listBytes s (rowItems items) (entryLengths entries))
-
-      third : (t : ℕ) (b : Bool) → eqb k (itemRowCount items) ≡ b → m ≡ measuredOf (cond b (fine t) (refused (rowNumber (itemOfRow items k)) k)) n → k ≡ itemRowCount items
-      third t true g q = eqb-true k (itemRowCount items) g
-      third t false g q = absurd (h (ap (λ (x : Measured). x .length) q))
-
-      second : (v : Verdict) → m ≡ measuredOf (thenRow items k v) n → k ≡ itemRowCount items
-      second (fine t) q = third t (eqb k (itemRowCount items)) refl q
-      second (refused a b) q = absurd (h (ap (λ (x : Measured). x .length) q))
-
-      first : (b : Bool) → ltb 256 (itemRowCount items) ≡ b
-          → m ≡ measuredOf (cond b (refused 9 0) (thenRow items k (itemsVerdict s checked (rowItems items) (entryLengths entries) 0 0 0))) n
-          → (itemRowCount items ≤ 256) × (k ≡ itemRowCount items)
-      first true g q = absurd (h (ap (λ (x : Measured). x .length) q))
-      first false g q = (ltb-false 256 (itemRowCount items) g, second (itemsVerdict s checked (rowItems items) (entryLengths entries) 0 0 0) q)
+      go : {u : ℕ} (v : Verdict) → thenRow items (length (rowItems items)) v ≡ fine u → length (rowItems items) ≡ itemRowCount items
+      go (fine t) q =
+          eqb-true _ _ (not-second (eqb (length (rowItems items)) (itemRowCount items)) (sym q) (λ e. let z : _≡_ {A = ℕ} 0 1 = cc in omega arith) .0)
+      go (refused a b) q = absurd (let z : _≡_ {A = ℕ} 0 1 = cc in omega arith)
 
   -- ---- the loop
 

@@ -47,7 +47,7 @@ use denote.Triple.Walked.{says, Stays, stay-none, stay-none-slice, walkOf, goes-
 use denote.Exit.{yes}
 use Rattle.item_reader.specs.declared.ItemReader.{ItemReader}
 use Rattle.item_reader.specs.declared.Next.{Next}
-use Rattle.item_reader.specs.Reader.{opened, stepFrom, after, afterCalls, nthOf}
+use Rattle.item_reader.specs.Reader.{opened, stepFrom, afterCall, afterCalls, nthOf}
 use borrow.Author.Tests.{lt-ltb, le-ltb}
 use Rattle.by_hand.proofs.Loop.{step-fits, counted-loop}
 use Rattle.item_reader.proofs.Lent as lent
@@ -156,7 +156,7 @@ module _ {M : Type 1} (𝓤 : URA M) (H : Heap 𝓤) (A : Atoms 𝓤) (W : Given
 
     -- what `next` answers, and the reader that it leaves
     abbrev Said : ItemReader → Next → ItemReader → Type 0
-    Said h r z = (r ≡ stepFrom h .answer) × (z ≡ after h)
+    Said h r z = (r ≡ stepFrom h .answer) × (z ≡ afterCall h)
 
     abbrev Answered : ℕ → GName → ItemReader → Val → Next → Item 𝓤
     Answered b γ h u r = (Toks b ⊛ ‵ (O.the-row .own r (u ∷ []))) ⊛ raw (ensured 𝓤 H A nx.ended (nx.clauses 𝓤 H A at-mem run) (κ₂ b) (ref γ h) tt r)

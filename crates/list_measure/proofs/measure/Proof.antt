@@ -9,7 +9,7 @@ use lib.ListN.{length}
 use Rattle.numbers.specs.Shortest.{shortest}
 use Rattle.list_measure.specs.Bytes.{itemsOf, lengthsOf}
 use Rattle.list_measure.proofs.Tables.{items-length, item-at, lengths-length, length-at}
-use Rattle.list_measure.proofs.Measuring.{too-many, measure-refused, Measuring, measuring-start, measuring-row, row-refused, measuring-item, item-refused, measuring-end}
+use Rattle.list_measure.proofs.Measuring.{measured-9, list-refused, Measuring, measuring-start, measuring-row, measuring-row-refused, measuring-item, measuring-item-refused, measuring-end}
 use Rattle.list_measure.proofs.measure.Statement.{statement}
 use Rattle.list_measure.proofs.measure.Tie as tie
 
@@ -29,7 +29,7 @@ refuse-requires : tie.Need-refuse-requires Inv-loop μ-loop
 refuse-requires c κs = search needs
 
 returns : tie.Need-returns Inv-loop μ-loop
-returns c = c .refuse .ensures ∙ too-many _ _ _ _ (omega (arith, items-length (c .before .before .before .before .args .t1) (c .before .before .before .before .args .item-count)))
+returns c = c .refuse .ensures ∙ measured-9 _ _ _ _ (omega (arith, items-length (c .before .before .before .before .args .t1) (c .before .before .before .before .args .item-count)))
 
 var-u64-len-requires : tie.Need-var-u64-len-requires Inv-loop μ-loop
 var-u64-len-requires c κs = search needs
@@ -62,7 +62,7 @@ returns-2 : tie.Need-returns-2 Inv-loop μ-loop
 returns-2 c =
     let v = c .before .before .before .before .before .loop .inv in
     c .refuse2 .ensures
-    ∙ measure-refused _ _ _ _ _ _ (omega arith) (row-refused _ _ _ _ (v .0) _ (c .before .before .before .before .if2 .taken) (length-at _ _ _ (omega arith)) (omega arith))
+    ∙ list-refused _ _ _ _ _ _ (omega arith) (measuring-row-refused _ _ _ _ (v .0) _ (c .before .before .before .before .if2 .taken) (length-at _ _ _ (omega arith)) (omega arith))
 
 add-total : tie.Need-add-total Inv-loop μ-loop
 add-total c = search needs
@@ -117,8 +117,8 @@ returns-3 : tie.Need-returns-3 Inv-loop μ-loop
 returns-3 c =
     let v = c .before .before .before .before .before .before .before .before .loop .inv in
     c .refuse3 .ensures
-    ∙ measure-refused _ _ _ _ _ _ (omega arith)
-    (item-refused _ _ _ _ (v .0) _ _ (v .2) (c .before .before .before .before .before .before .before .if2 .left) (omega arith) (item-at _ _ _ (omega arith))
+    ∙ list-refused _ _ _ _ _ _ (omega arith)
+    (measuring-item-refused _ _ _ _ (v .0) _ _ (v .2) (c .before .before .before .before .before .before .before .if2 .left) (omega arith) (item-at _ _ _ (omega arith))
     (sym (c .before .before .before .before .measure .ensures) ∙ c .before .before .number .given .1))
 
 enum-known-len : tie.Need-enum-known-len Inv-loop μ-loop

@@ -11,7 +11,7 @@ use Rattle.log_item.specs.declared.EntryIndexes.{EntryIndexes}
 use Rattle.list_measure.specs.Bytes.{itemsOf, lengthsOf}
 use Rattle.list_measure.proofs.Tables.{items-length, item-at, length-at}
 use Rattle.list_writer.proofs.Writing.{Writing, row-low, writing-row, item-few, writing-item}
-use Rattle.list_writer.proofs.Bodies.{accepted, writing-begins, body-stored, body-length, fits, none-written, all-written}
+use Rattle.list_writer.proofs.Bodies.{accepted, writing-begins, body-stored, body-length, placing-told, refused-laid, all-laid}
 use Rattle.list_writer.proofs.encode.Statement.{statement}
 use Rattle.list_writer.proofs.encode.Tie as tie
 
@@ -31,7 +31,7 @@ placing-requires : tie.Need-placing-requires Inv-loop μ-loop
 placing-requires c κs = search needs
 
 returns : tie.Need-returns Inv-loop μ-loop
-returns c = none-written _ _ _ _ (c .before .before .before .measure .ensures) (c .before .before .placing .ensures) (c .if1 .taken)
+returns c = refused-laid _ _ _ _ (c .before .before .before .measure .ensures) (c .before .before .placing .ensures) (c .if1 .taken)
 
 put-var-u64-requires : tie.Need-put-var-u64-requires Inv-loop μ-loop
 put-var-u64-requires c κs = search needs
@@ -40,7 +40,7 @@ loop-holds : tie.Need-loop-holds Inv-loop μ-loop
 loop-holds c =
     let start = c .before .before .before .before .before .before .before .before .before .before .args in
     let m = c .before .before .before .before .before .before .before .measure .ensures in
-    let f = fits m (length (now (start .out))) (start .at) (c .before .before .before .before .before .before .placing .ensures) (c .before .before .before .before .if1 .left) in
+    let f = placing-told m (length (now (start .out))) (start .at) (c .before .before .before .before .before .before .placing .ensures) (c .before .before .before .before .if1 .left) in
     let a = accepted _ _ _ _ _ m (f .0) in
     (writing-begins a (items-length _ _) _ _ (f .1) (c .before .before .put-var-u64 .ensures), items-length _ _, a .few)
 
@@ -114,9 +114,9 @@ returns-2 c =
     let m = c .before .before .before .before .before .before .before .before .before .before .before .before .before .before .measure .ensures in
     let p = c .before .before .before .before .before .before .before .before .before .before .before .before .before .placing .ensures in
     let some = c .before .before .before .before .before .before .before .before .before .before .before .if1 .left in
-    let f = fits m (length (now (start .out))) (start .at) p some in
+    let f = placing-told m (length (now (start .out))) (start .at) p some in
     let a = accepted _ _ _ _ _ m (f .0) in
-    all-written _ _ _ _ m p some (body-length _ a)
+    all-laid _ _ _ _ m p some (body-length _ a)
     (body-stored a (items-length _ _) _ _ (f .1) (c .before .before .before .before .before .before .before .before .before .put-var-u64 .ensures) (c .before .before .before .before .before .before .loop .inv .0) (c .before .before .before .before .before .if2 .left) (omega arith) _ (c .before .before .write-footer .ensures))
 
 pub encode-spec : {M : Type 1} → statement M

@@ -1,12 +1,12 @@
 -- `list_writer::write_footer` meets its contract.
 -- Assumes nothing.
 use borrow.Author.Needs.{needs}
-use Rattle.list_writer.proofs.Pieces.{footer-back, footer-past, footer-next, footer-place}
+use Rattle.list_writer.proofs.Pieces.{no-footer, footer-past, footer-next, footer-place}
 use Rattle.list_writer.proofs.write_footer.Statement.{statement}
 use Rattle.list_writer.proofs.write_footer.Tie as tie
 
 returns : tie.Need-returns
-returns c = footer-back _ _ _ _ (c .if1 .taken)
+returns c = no-footer _ _ _ _ (c .if1 .taken)
 
 returns-2 : tie.Need-returns-2
 returns-2 c = footer-past _ _ _ _ (c .before .if1 .left) (c .if2 .taken)

@@ -1,7 +1,7 @@
 -- `location_answers::decide` meets its contract: a law for each way out.
 -- Assumes nothing.
 use borrow.Author.Tests.{not-true, not-false}
-use Rattle.location_answers.proofs.Deciding.{broken, unready, apart, starts-late, starts-early, gated, ungated}
+use Rattle.location_answers.proofs.Deciding.{broken, not-ready, apart, starts-late, starts-early, gated, ungated}
 use borrow.Author.Needs.{needs}
 use Rattle.location_answers.proofs.decide.Statement.{statement}
 use Rattle.location_answers.proofs.decide.Tie as tie
@@ -16,7 +16,7 @@ unchanged-requires-2 : tie.Need-unchanged-requires-2
 unchanged-requires-2 c κs = search needs
 
 returns-2 : tie.Need-returns-2
-returns-2 c = unready _ _ _ _ _ _ _ _ (not-false _ (c .before .before .if1 .left)) (not-true _ (c .before .if2 .taken)) (c .unchanged2 .ensures)
+returns-2 c = not-ready _ _ _ _ _ _ _ _ (not-false _ (c .before .before .if1 .left)) (not-true _ (c .before .if2 .taken)) (c .unchanged2 .ensures)
 
 unchanged-requires-3 : tie.Need-unchanged-requires-3
 unchanged-requires-3 c κs = search needs

@@ -5,13 +5,13 @@ use mathlib.Core.Path.{_≡_}
 use native.Mathlib.Omega.{arith}
 use borrow.Author.Needs.{needs}
 use Rattle.numbers.specs.Number.{readNumber}
-use Rattle.numbers.proofs.Reading.{onto, left, first-long, grown, grown-fits, turn-last, turn-more, turn-short, turn-over, turn-tenth}
+use Rattle.numbers.proofs.Reading.{onto, leftAfter, first-long, grown, grown-fits, turn-last, turn-more, turn-short, turn-over, turn-tenth}
 use Rattle.numbers.proofs.decode_up_to.Statement.{statement}
 use Rattle.numbers.proofs.decode_up_to.Tie as tie
 
 abbrev Inv-loop : tie.InvT-loop
 Inv-loop buf at first end value₀ j₀ value j =
-    (1 ≤ j) × (j ≤ end) × (value < 2 ^ (7 * j)) × (readNumber buf at ≡ onto value (7 * j) (left buf at j))
+    (1 ≤ j) × (j ≤ end) × (value < 2 ^ (7 * j)) × (readNumber buf at ≡ onto value (7 * j) (leftAfter buf at j))
 
 abbrev μ-loop : tie.MeasureT-loop
 μ-loop buf at first end value₀ j₀ value j = end - j

@@ -1,7 +1,7 @@
 -- `raft_log::raft_log_is_plain` meets its contract.
 -- Assumes nothing.
 use Rattle.raft_log.specs.Answers.{plainReply}
-use Rattle.item_row.proofs.Replies.{told}
+use Rattle.item_row.proofs.Replies.{reply-told}
 use borrow.Author.Needs.{needs}
 use Rattle.raft_log.proofs.raft_log_is_plain.Statement.{statement}
 use Rattle.raft_log.proofs.raft_log_is_plain.Tie as tie
@@ -19,13 +19,13 @@ enum-known-refusal : tie.Need-enum-known-refusal
 enum-known-refusal c = search needs
 
 returns : tie.Need-returns
-returns c = told plainReply (c .before .before .before .plain .ensures) (c .before .enum-told .given .1)
+returns c = reply-told plainReply (c .before .before .before .plain .ensures) (c .before .enum-told .given .1)
 
 returns-2 : tie.Need-returns-2
-returns-2 c = told plainReply (c .before .before .before .plain .ensures) (c .before .enum-told2 .given .1)
+returns-2 c = reply-told plainReply (c .before .before .before .plain .ensures) (c .before .enum-told2 .given .1)
 
 returns-3 : tie.Need-returns-3
-returns-3 c = told plainReply (c .before .before .before .before .plain .ensures) (c .before .before .refusal .given .1)
+returns-3 c = reply-told plainReply (c .before .before .before .before .plain .ensures) (c .before .before .refusal .given .1)
 
 pub raft-log-is-plain-spec : {M : Type 1} → statement M
 raft-log-is-plain-spec =

@@ -4,7 +4,7 @@ use Rattle.numbers.specs.declared.NumberRead.{NumberRead}
 use Rattle.log_item.specs.Pieces.{numberGot}
 use Rattle.raft_log.specs.Answers.{numberReply}
 use Rattle.item_row.specs.Reply.{Reply}
-use Rattle.item_row.proofs.Replies.{told}
+use Rattle.item_row.proofs.Replies.{reply-told}
 use borrow.Author.Needs.{needs}
 use Rattle.raft_log.proofs.raft_log_read_number.Statement.{statement}
 use Rattle.raft_log.proofs.raft_log_read_number.Tie as tie
@@ -25,13 +25,13 @@ enum-told-2 : tie.Need-enum-told-2
 enum-told-2 c = search needs
 
 returns : tie.Need-returns
-returns c = told replied (c .before .before .before .before .decode-var-u64-unrolled .ensures) (c .before .before .value .given .1)
+returns c = reply-told replied (c .before .before .before .before .decode-var-u64-unrolled .ensures) (c .before .before .value .given .1)
 
 returns-2 : tie.Need-returns-2
-returns-2 c = told replied (c .before .before .before .decode-var-u64-unrolled .ensures) (c .before .enum-told .given .1)
+returns-2 c = reply-told replied (c .before .before .before .decode-var-u64-unrolled .ensures) (c .before .enum-told .given .1)
 
 returns-3 : tie.Need-returns-3
-returns-3 c = told replied (c .before .before .before .decode-var-u64-unrolled .ensures) (c .before .enum-told2 .given .1)
+returns-3 c = reply-told replied (c .before .before .before .decode-var-u64-unrolled .ensures) (c .before .enum-told2 .given .1)
 
 pub raft-log-read-number-spec : {M : Type 1} → statement M
 raft-log-read-number-spec =

@@ -1,6 +1,6 @@
 -- `raft_log::raft_log_status` meets its contract.
 -- Assumes nothing.
-use Rattle.raft_log.proofs.Replies.{row-refused, row-marked}
+use Rattle.raft_log.proofs.Replies.{status-refused, status-marked}
 use borrow.Author.Needs.{needs}
 use Rattle.raft_log.proofs.raft_log_status.Statement.{statement}
 use Rattle.raft_log.proofs.raft_log_status.Tie as tie
@@ -42,10 +42,10 @@ put-status-requires : tie.Need-put-status-requires
 put-status-requires c κs = search needs
 
 returns : tie.Need-returns
-returns c = row-refused _ _ (c .before .before .before .before .item-of .ensures) (c .before .before .number .given .1)
+returns c = status-refused _ _ (c .before .before .before .before .item-of .ensures) (c .before .before .number .given .1)
 
 returns-2 : tie.Need-returns-2
-returns-2 c = row-marked _ _ (c .before .before .before .before .before .before .item-of .ensures) (c .before .before .before .before .item .given .1) (c .before .before .parse .ensures) (c .put-status .ensures)
+returns-2 c = status-marked _ _ (c .before .before .before .before .before .before .item-of .ensures) (c .before .before .before .before .item .given .1) (c .before .before .parse .ensures) (c .put-status .ensures)
 
 pub raft-log-status-spec : {M : Type 1} → statement M
 raft-log-status-spec =

@@ -1,7 +1,7 @@
 -- `rows_reader::fill` meets its contract. The outer loop's invariant, `Storing` with no tails left: what is stored and what is still to come are
 -- the whole answer. The inner loop's: what is `Storing` where it begins is so at each turn.
 -- Assumes nothing.
-use Rattle.rows_reader.proofs.Storing.{Storing, not-broken, storing-start, same-items, same-entries, row-never, row-room, storing-row, stored-all, item-never, item-room, storing-item}
+use Rattle.rows_reader.proofs.Storing.{Storing, not-broken, storing-start, items-as-long, entries-as-long, row-never, row-room, storing-row, stored-all, item-never, item-room, storing-item}
 use Rattle.rows_reader.specs.Private.{Fits}
 use Rattle.log_item.proofs.Known.{tail-known}
 use Rattle.log_item.proofs.Smallest.{learnt}
@@ -46,10 +46,10 @@ enum-told : tie.Need-enum-told Inv-loop2 μ-loop2 Inv-loop μ-loop
 enum-told c = search needs
 
 same-length : tie.Need-same-length Inv-loop2 μ-loop2 Inv-loop μ-loop
-same-length c = let v = c .before .before .before .before .loop .inv in same-items (v .1) (v .0)
+same-length c = let v = c .before .before .before .before .loop .inv in items-as-long (v .1) (v .0)
 
 same-length-2 : tie.Need-same-length-2 Inv-loop2 μ-loop2 Inv-loop μ-loop
-same-length-2 c = let v = c .before .before .before .before .loop .inv in same-entries (v .1) (v .0)
+same-length-2 c = let v = c .before .before .before .before .loop .inv in entries-as-long (v .1) (v .0)
 
 returns-2 : tie.Need-returns-2 Inv-loop2 μ-loop2 Inv-loop μ-loop
 returns-2 c = let v = c .before .before .before .before .loop .inv in item-never (v .1) (v .0) (v .2) (c .before .before .before .loop-test .taken) (learnt headGot (c .before .before .decode-head .ensures) (c .enum-told .given .1))
@@ -85,10 +85,10 @@ enum-told-2 : tie.Need-enum-told-2 Inv-loop2 μ-loop2 Inv-loop μ-loop
 enum-told-2 c = search needs
 
 same-length-3 : tie.Need-same-length-3 Inv-loop2 μ-loop2 Inv-loop μ-loop
-same-length-3 c = let s = c .before .before .before .before .before in let v = s .before .before .before .before .before .before .before .before .before .before .loop .inv in let w = storing-item (v .1) (v .0) (v .2) (s .before .before .before .before .before .before .before .before .before .loop-test .taken) (learnt headGot (s .before .before .before .before .before .before .before .before .decode-head .ensures) (s .before .before .before .before .before .before .item .given .1)) (s .before .before .before .before .entries .ensures) (s .before .before .put-item .ensures) in let x = c .before .before .before .before .loop2 .inv _ _ (v .1) w in same-items (v .1) x
+same-length-3 c = let s = c .before .before .before .before .before in let v = s .before .before .before .before .before .before .before .before .before .before .loop .inv in let w = storing-item (v .1) (v .0) (v .2) (s .before .before .before .before .before .before .before .before .before .loop-test .taken) (learnt headGot (s .before .before .before .before .before .before .before .before .decode-head .ensures) (s .before .before .before .before .before .before .item .given .1)) (s .before .before .before .before .entries .ensures) (s .before .before .put-item .ensures) in let x = c .before .before .before .before .loop2 .inv _ _ (v .1) w in items-as-long (v .1) x
 
 same-length-4 : tie.Need-same-length-4 Inv-loop2 μ-loop2 Inv-loop μ-loop
-same-length-4 c = let s = c .before .before .before .before .before in let v = s .before .before .before .before .before .before .before .before .before .before .loop .inv in let w = storing-item (v .1) (v .0) (v .2) (s .before .before .before .before .before .before .before .before .before .loop-test .taken) (learnt headGot (s .before .before .before .before .before .before .before .before .decode-head .ensures) (s .before .before .before .before .before .before .item .given .1)) (s .before .before .before .before .entries .ensures) (s .before .before .put-item .ensures) in let x = c .before .before .before .before .loop2 .inv _ _ (v .1) w in same-entries (v .1) x
+same-length-4 c = let s = c .before .before .before .before .before in let v = s .before .before .before .before .before .before .before .before .before .before .loop .inv in let w = storing-item (v .1) (v .0) (v .2) (s .before .before .before .before .before .before .before .before .before .loop-test .taken) (learnt headGot (s .before .before .before .before .before .before .before .before .decode-head .ensures) (s .before .before .before .before .before .before .item .given .1)) (s .before .before .before .before .entries .ensures) (s .before .before .put-item .ensures) in let x = c .before .before .before .before .loop2 .inv _ _ (v .1) w in entries-as-long (v .1) x
 
 returns-3 : tie.Need-returns-3 Inv-loop2 μ-loop2 Inv-loop μ-loop
 returns-3 c = let s = c .before .before .before .before .before in let v = s .before .before .before .before .before .before .before .before .before .before .loop .inv in let w = storing-item (v .1) (v .0) (v .2) (s .before .before .before .before .before .before .before .before .before .loop-test .taken) (learnt headGot (s .before .before .before .before .before .before .before .before .decode-head .ensures) (s .before .before .before .before .before .before .item .given .1)) (s .before .before .before .before .entries .ensures) (s .before .before .put-item .ensures) in let x = c .before .before .before .before .loop2 .inv _ _ (v .1) w in row-never (v .1) x (c .before .before .before .loop2-test .taken) (learnt tailGot (c .before .before .decode-tail .ensures) (c .enum-told2 .given .1))
@@ -121,10 +121,10 @@ loop2-again : tie.Need-loop2-again Inv-loop2 μ-loop2 Inv-loop μ-loop
 loop2-again c = λ _ _ f w. storing-row f (c .before .before .before .before .before .before .before .before .before .before .loop2 .inv _ _ f w) (c .before .before .before .before .before .before .before .before .before .loop2-test .taken) (learnt tailGot (c .before .before .before .before .before .before .before .before .decode-tail .ensures) (c .before .before .before .before .before .before .after .given .1)) (c .wrapping-add-u64 .ensures) (c .before .before .before .put-entry .ensures)
 
 same-length-5 : tie.Need-same-length-5 Inv-loop2 μ-loop2 Inv-loop μ-loop
-same-length-5 c = let v = c .before .loop .inv in same-items (v .1) (v .0)
+same-length-5 c = let v = c .before .loop .inv in items-as-long (v .1) (v .0)
 
 same-length-6 : tie.Need-same-length-6 Inv-loop2 μ-loop2 Inv-loop μ-loop
-same-length-6 c = let v = c .before .loop .inv in same-entries (v .1) (v .0)
+same-length-6 c = let v = c .before .loop .inv in entries-as-long (v .1) (v .0)
 
 returns-4 : tie.Need-returns-4 Inv-loop2 μ-loop2 Inv-loop μ-loop
 returns-4 c = let v = c .before .loop .inv in stored-all (v .1) (v .0) (v .2) (c .loop-test .left)

@@ -2,7 +2,7 @@
 -- Assumes nothing.
 use lib.ListN.{length-set}
 use native.Mathlib.Omega.{arith}
-use Rattle.rows_reader.proofs.Stores.{three}
+use Rattle.rows_reader.proofs.Stores.{words-three}
 use borrow.Author.Needs.{needs}
 use Rattle.rows_reader.proofs.put_entry.Statement.{statement}
 use Rattle.rows_reader.proofs.put_entry.Tie as tie
@@ -35,7 +35,7 @@ same-length : tie.Need-same-length
 same-length c = search needs
 
 returns : tie.Need-returns
-returns c = three _ _ _ _ _
+returns c = words-three _ _ _ _ _
 
 pub put-entry-spec : {M : Type 1} → statement M
 put-entry-spec =

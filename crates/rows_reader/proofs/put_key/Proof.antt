@@ -1,6 +1,6 @@
 -- `rows_reader::put_key` meets its contract.
 -- Assumes nothing.
-use Rattle.rows_reader.proofs.Stores.{key-put, key-delete}
+use Rattle.rows_reader.proofs.Stores.{put-words, delete-words}
 use borrow.Author.Needs.{needs}
 use Rattle.rows_reader.proofs.put_key.Statement.{statement}
 use Rattle.rows_reader.proofs.put_key.Tie as tie
@@ -21,13 +21,13 @@ same-length : tie.Need-same-length
 same-length c = search needs
 
 returns : tie.Need-returns
-returns c = key-put _ (c .before .before .before .before .before .op .given .1) (c .before .before .put-seven .ensures)
+returns c = put-words _ (c .before .before .before .before .before .op .given .1) (c .before .before .put-seven .ensures)
 
 same-length-2 : tie.Need-same-length-2
 same-length-2 c = search needs
 
 returns-2 : tie.Need-returns-2
-returns-2 c = key-delete _ (c .before .before .before .before .enum-told .given .1) (c .before .before .put-seven2 .ensures)
+returns-2 c = delete-words _ (c .before .before .before .before .enum-told .given .1) (c .before .before .put-seven2 .ensures)
 
 pub put-key-spec : {M : Type 1} → statement M
 put-key-spec =

@@ -2,7 +2,7 @@
 -- Assumes nothing.
 use lib.ListN.{length-set}
 use native.Mathlib.Omega.{arith}
-use Rattle.rows_reader.proofs.Stores.{seven}
+use Rattle.rows_reader.proofs.Stores.{words-seven}
 use borrow.Author.Needs.{needs}
 use Rattle.rows_reader.proofs.put_seven.Statement.{statement}
 use Rattle.rows_reader.proofs.put_seven.Tie as tie
@@ -71,7 +71,7 @@ same-length : tie.Need-same-length
 same-length c = search needs
 
 returns : tie.Need-returns
-returns c = seven _ _ _ _ _ _ _ _ _
+returns c = words-seven _ _ _ _ _ _ _ _ _
 
 pub put-seven-spec : {M : Type 1} → statement M
 put-seven-spec =

@@ -1,9 +1,9 @@
 -- `rows_writer::encode_rows` meets its contract. The loop's invariant is that of `encode`, for the items of the rows: each row is one.
 -- Assumes nothing.
-use Rattle.list_writer.proofs.Bodies.{accepted, writing-begins, body-stored, body-length, fits, none-written, all-written}
+use Rattle.list_writer.proofs.Bodies.{accepted, writing-begins, body-stored, body-length, placing-told, refused-laid, all-laid}
 use Rattle.list_writer.proofs.Writing.{Writing, row-low, writing-row, item-few, writing-item}
 use Rattle.rows_writer.proofs.RowsMeasuring.{rows-accepted}
-use Rattle.rows_writer.proofs.RowItems.{row-never, row-item, length-at, words-there}
+use Rattle.rows_writer.proofs.RowItems.{item-row-never, row-item, entry-length-at, words-there}
 use Rattle.item_row.specs.Row.{itemRowCount}
 use Rattle.rows_writer.specs.Rows.{rowItems, entryLengths}
 use Rattle.log_item.specs.declared.EntryIndexes.{EntryIndexes}
@@ -31,7 +31,7 @@ placing-requires : tie.Need-placing-requires Inv-loop μ-loop
 placing-requires c κs = search needs
 
 returns : tie.Need-returns Inv-loop μ-loop
-returns c = none-written _ _ _ _ (c .before .before .before .measure-rows .ensures) (c .before .before .placing .ensures) (c .if1 .taken)
+returns c = refused-laid _ _ _ _ (c .before .before .before .measure-rows .ensures) (c .before .before .placing .ensures) (c .if1 .taken)
 
 put-var-u64-requires : tie.Need-put-var-u64-requires Inv-loop μ-loop
 put-var-u64-requires c κs = search needs
@@ -40,7 +40,7 @@ loop-holds : tie.Need-loop-holds Inv-loop μ-loop
 loop-holds c =
     let start = c .before .before .before .before .before .before .before .before .before .before .before .before .args in
     let m = c .before .before .before .before .before .before .before .measure-rows .ensures in
-    let f = fits m (length (now (start .out))) (start .at) (c .before .before .before .before .before .before .placing .ensures) (c .before .before .before .before .if1 .left) in
+    let f = placing-told m (length (now (start .out))) (start .at) (c .before .before .before .before .before .before .placing .ensures) (c .before .before .before .before .if1 .left) in
     let p = rows-accepted _ _ _ _ m (f .0) in
     let a = accepted _ _ _ _ _ (p .1) (f .0) in
     (writing-begins a (p .0) _ _ (f .1) (c .before .before .put-var-u64 .ensures), p .0, omega (arith, a .few, p .0), refl)
@@ -49,13 +49,13 @@ entry-len-requires : tie.Need-entry-len-requires Inv-loop μ-loop
 entry-len-requires c κs = words-there (now (c .before .before .before .before .before .before .before .before .before .before .before .before .before .before .args .entries)) (c .before .loop .j) (omega arith)
 
 cast-total : tie.Need-cast-total Inv-loop μ-loop
-cast-total c = omega (arith, row-low (c .before .before .loop .inv .0) _ (c .before .if2 .taken) (length-at _ _ (omega arith) ∙ sym (c .entry-len .ensures)))
+cast-total c = omega (arith, row-low (c .before .before .loop .inv .0) _ (c .before .if2 .taken) (entry-length-at _ _ (omega arith) ∙ sym (c .entry-len .ensures)))
 
 add-total : tie.Need-add-total Inv-loop μ-loop
-add-total c = omega (arith, row-low (c .before .before .loop .inv .0) _ (c .before .if2 .taken) (length-at _ _ (omega arith) ∙ sym (c .entry-len .ensures)))
+add-total c = omega (arith, row-low (c .before .before .loop .inv .0) _ (c .before .if2 .taken) (entry-length-at _ _ (omega arith) ∙ sym (c .entry-len .ensures)))
 
 cast-put-var-u64 : tie.Need-cast-put-var-u64 Inv-loop μ-loop
-cast-put-var-u64 c = omega (arith, row-low (c .before .before .loop .inv .0) _ (c .before .if2 .taken) (length-at _ _ (omega arith) ∙ sym (c .entry-len .ensures)))
+cast-put-var-u64 c = omega (arith, row-low (c .before .before .loop .inv .0) _ (c .before .if2 .taken) (entry-length-at _ _ (omega arith) ∙ sym (c .entry-len .ensures)))
 
 put-var-u64-requires-2 : tie.Need-put-var-u64-requires-2 Inv-loop μ-loop
 put-var-u64-requires-2 c κs = search needs
@@ -72,7 +72,7 @@ loop-less c = search needs
 loop-again : tie.Need-loop-again Inv-loop μ-loop
 loop-again c =
     let v = c .before .before .before .before .before .before .loop .inv in
-    (writing-row (v .0) _ _ _ (c .before .before .before .before .before .if2 .taken) (length-at _ _ (omega arith) ∙ sym (c .before .before .before .before .entry-len .ensures)) (c .before .before .put-var-u642 .ensures), v .1, v .2, v .3)
+    (writing-row (v .0) _ _ _ (c .before .before .before .before .before .if2 .taken) (entry-length-at _ _ (omega arith) ∙ sym (c .before .before .before .before .entry-len .ensures)) (c .before .before .put-var-u642 .ensures), v .1, v .2, v .3)
 
 row-at-requires : tie.Need-row-at-requires Inv-loop μ-loop
 row-at-requires c κs = omega arith
@@ -87,7 +87,7 @@ same-length : tie.Need-same-length Inv-loop μ-loop
 same-length c = search needs
 
 returns-2 : tie.Need-returns-2 Inv-loop μ-loop
-returns-2 c = row-never _ _ (omega arith) (sym (c .before .before .row-at .ensures) ∙ c .enum-told .given .1)
+returns-2 c = item-row-never _ _ (omega arith) (sym (c .before .before .row-at .ensures) ∙ c .enum-told .given .1)
 
 write-head-requires : tie.Need-write-head-requires Inv-loop μ-loop
 write-head-requires c κs = search needs
@@ -127,10 +127,10 @@ returns-3 c =
     let m = c .before .before .before .before .before .before .before .before .before .before .before .before .before .before .measure-rows .ensures in
     let q = c .before .before .before .before .before .before .before .before .before .before .before .before .before .placing .ensures in
     let some = c .before .before .before .before .before .before .before .before .before .before .before .if1 .left in
-    let f = fits m (length (now (start .out))) (start .at) q some in
+    let f = placing-told m (length (now (start .out))) (start .at) q some in
     let p = rows-accepted _ _ _ _ m (f .0) in
     let a = accepted _ _ _ _ _ (p .1) (f .0) in
-    all-written _ _ _ _ m q some (body-length _ a)
+    all-laid _ _ _ _ m q some (body-length _ a)
     (body-stored a (p .0) _ _ (f .1) (c .before .before .before .before .before .before .before .before .before .put-var-u64 .ensures) (c .before .before .before .before .before .before .loop .inv .0) (c .before .before .before .before .before .if2 .left) (omega arith) _ (c .before .before .write-footer .ensures))
 
 pub encode-rows-spec : {M : Type 1} → statement M

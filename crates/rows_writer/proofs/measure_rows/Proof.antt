@@ -1,9 +1,9 @@
 -- `rows_writer::measure_rows` meets its contract. The loop's invariant is that of `measure`, for the items of the rows up to the first that is none.
 -- Assumes nothing.
 use denote.Ref.{now}
-use Rattle.rows_writer.proofs.RowsMeasuring.{rows-many, rows-refused, bad-row, rows-end}
-use Rattle.list_measure.proofs.Measuring.{Measuring, measuring-start, measuring-row, row-refused, measuring-item, item-refused}
-use Rattle.rows_writer.proofs.RowItems.{items-few, row-there, row-item, lengths-length, length-at, words-there}
+use Rattle.rows_writer.proofs.RowsMeasuring.{rows-many, rows-item-refused, bad-row, rows-end}
+use Rattle.list_measure.proofs.Measuring.{Measuring, measuring-start, measuring-row, measuring-row-refused, measuring-item, measuring-item-refused}
+use Rattle.rows_writer.proofs.RowItems.{items-few, row-there, row-item, entry-lengths-length, entry-length-at, words-there}
 use Rattle.item_row.specs.Row.{itemRowCount}
 use Rattle.rows_writer.specs.Rows.{rowItems, entryLengths}
 use Rattle.numbers.specs.Shortest.{shortest}
@@ -31,7 +31,7 @@ var-u64-len-requires : tie.Need-var-u64-len-requires Inv-loop μ-loop
 var-u64-len-requires c κs = search needs
 
 loop-holds : tie.Need-loop-holds Inv-loop μ-loop
-loop-holds c = (measuring-start _ _ _ _ _ _ (c .before .if1 .left) (c .var-u64-len .ensures), lengths-length _, c .before .if1 .left, refl, c .var-u64-len .ensures)
+loop-holds c = (measuring-start _ _ _ _ _ _ (c .before .if1 .left) (c .var-u64-len .ensures), entry-lengths-length _, c .before .if1 .left, refl, c .var-u64-len .ensures)
 
 entry-len-requires : tie.Need-entry-len-requires Inv-loop μ-loop
 entry-len-requires c κs = words-there (now (c .before .before .before .before .before .before .before .args .entries)) (c .before .loop .j) (omega arith)
@@ -49,7 +49,7 @@ refuse-requires-2 : tie.Need-refuse-requires-2 Inv-loop μ-loop
 refuse-requires-2 c κs = search needs
 
 returns-2 : tie.Need-returns-2 Inv-loop μ-loop
-returns-2 c = let v = c .before .before .before .before .loop .inv in c .refuse2 .ensures ∙ rows-refused _ _ _ _ (omega arith) (row-refused _ _ _ _ (v .0) _ (c .before .before .before .if2 .taken) (length-at _ _ (omega arith) ∙ sym (c .before .before .entry-len .ensures)) (omega arith))
+returns-2 c = let v = c .before .before .before .before .loop .inv in c .refuse2 .ensures ∙ rows-item-refused _ _ _ _ (omega arith) (measuring-row-refused _ _ _ _ (v .0) _ (c .before .before .before .if2 .taken) (entry-length-at _ _ (omega arith) ∙ sym (c .before .before .entry-len .ensures)) (omega arith))
 
 cast-total : tie.Need-cast-total Inv-loop μ-loop
 cast-total c = search needs
@@ -64,7 +64,7 @@ var-u64-len-requires-2 : tie.Need-var-u64-len-requires-2 Inv-loop μ-loop
 var-u64-len-requires-2 c κs = search needs
 
 add-size : tie.Need-add-size Inv-loop μ-loop
-add-size c = let v = c .before .before .before .before .loop .inv in let w = measuring-row _ _ _ _ (v .0) _ _ (c .before .before .before .if2 .taken) (length-at _ _ (omega arith) ∙ sym (c .before .before .entry-len .ensures)) (omega arith) (c .var-u64-len2 .ensures) in omega (arith, items-few (now (c .before .before .before .before .before .before .before .before .before .before .args .items)))
+add-size c = let v = c .before .before .before .before .loop .inv in let w = measuring-row _ _ _ _ (v .0) _ _ (c .before .before .before .if2 .taken) (entry-length-at _ _ (omega arith) ∙ sym (c .before .before .entry-len .ensures)) (omega arith) (c .var-u64-len2 .ensures) in omega (arith, items-few (now (c .before .before .before .before .before .before .before .before .before .before .args .items)))
 
 add-j : tie.Need-add-j Inv-loop μ-loop
 add-j c = search needs
@@ -76,7 +76,7 @@ loop-less : tie.Need-loop-less Inv-loop μ-loop
 loop-less c = search needs
 
 loop-again : tie.Need-loop-again Inv-loop μ-loop
-loop-again c = let v = c .before .before .before .before .loop .inv in (measuring-row _ _ _ _ (v .0) _ _ (c .before .before .before .if2 .taken) (length-at _ _ (omega arith) ∙ sym (c .before .before .entry-len .ensures)) (omega arith) (c .var-u64-len2 .ensures), v .1, v .2, v .3, v .4)
+loop-again c = let v = c .before .before .before .before .loop .inv in (measuring-row _ _ _ _ (v .0) _ _ (c .before .before .before .if2 .taken) (entry-length-at _ _ (omega arith) ∙ sym (c .before .before .entry-len .ensures)) (omega arith) (c .var-u64-len2 .ensures), v .1, v .2, v .3, v .4)
 
 row-at-requires : tie.Need-row-at-requires Inv-loop μ-loop
 row-at-requires c κs = omega arith
@@ -103,7 +103,7 @@ refuse-requires-4 : tie.Need-refuse-requires-4 Inv-loop μ-loop
 refuse-requires-4 c κs = search needs
 
 returns-4 : tie.Need-returns-4 Inv-loop μ-loop
-returns-4 c = let v = c .before .before .before .before .before .before .before .before .before .before .before .loop .inv in let e = sym (c .before .before .before .before .before .before .before .before .row-at .ensures) ∙ c .before .before .before .before .before .before .item .given .1 in let l = row-there _ _ (v .0 .most) (omega arith) e in c .refuse4 .ensures ∙ rows-refused _ _ _ _ (omega arith) (item-refused _ _ _ _ (v .0) _ _ (v .1) (c .before .before .before .before .before .before .before .before .before .before .if2 .left) l (row-item _ _ l e) (sym (c .before .before .before .before .measure .ensures) ∙ c .before .before .number2 .given .1))
+returns-4 c = let v = c .before .before .before .before .before .before .before .before .before .before .before .loop .inv in let e = sym (c .before .before .before .before .before .before .before .before .row-at .ensures) ∙ c .before .before .before .before .before .before .item .given .1 in let l = row-there _ _ (v .0 .most) (omega arith) e in c .refuse4 .ensures ∙ rows-item-refused _ _ _ _ (omega arith) (measuring-item-refused _ _ _ _ (v .0) _ _ (v .1) (c .before .before .before .before .before .before .before .before .before .before .if2 .left) l (row-item _ _ l e) (sym (c .before .before .before .before .measure .ensures) ∙ c .before .before .number2 .given .1))
 
 enum-known-len : tie.Need-enum-known-len Inv-loop μ-loop
 enum-known-len c = search needs

@@ -1,7 +1,7 @@
 -- `speed::speed_check_items` meets its contract.
 -- Assumes nothing.
 use Rattle.speed.specs.Replies.{countReply}
-use Rattle.item_row.proofs.Replies.{told}
+use Rattle.item_row.proofs.Replies.{reply-told}
 use borrow.Author.Needs.{needs}
 use Rattle.speed.proofs.speed_check_items.Statement.{statement}
 use Rattle.speed.proofs.speed_check_items.Tie as tie
@@ -16,10 +16,10 @@ enum-known-refusal : tie.Need-enum-known-refusal
 enum-known-refusal c = search needs
 
 returns : tie.Need-returns
-returns c = told countReply (c .before .before .before .before .check-items .ensures) (c .before .before .items .given .1)
+returns c = reply-told countReply (c .before .before .before .before .check-items .ensures) (c .before .before .items .given .1)
 
 returns-2 : tie.Need-returns-2
-returns-2 c = told countReply (c .before .before .before .before .check-items .ensures) (c .before .before .refusal .given .1)
+returns-2 c = reply-told countReply (c .before .before .before .before .check-items .ensures) (c .before .before .refusal .given .1)
 
 pub speed-check-items-spec : {M : Type 1} → statement M
 speed-check-items-spec =

@@ -8,7 +8,7 @@ use Rattle.log_item.specs.declared.Form.the-variants.{Any}
 use Rattle.log_item.proofs.Smallest.{learnt, number-any, number-broken}
 use Rattle.log_batch.proofs.Checking.{count-broken, count-many}
 use Rattle.log_item.proofs.Known.{tail-known, head-room}
-use Rattle.log_batch.proofs.Filling.{Filling, not-done, begun, next-row, row-refused, ended, next-item, item-refused}
+use Rattle.log_batch.proofs.Filling.{Filling, not-done, begun, next-row, filling-row-refused, ended, next-item, filling-item-refused}
 use Rattle.log_batch.proofs.Tables.{refused-table, filled}
 use borrow.Author.Needs.{needs}
 use native.Mathlib.Omega.{arith}
@@ -73,7 +73,7 @@ returns-3 c =
     let tail = c .before .before .before .before in
     let turn = tail .before .before in
     refused-table _ _ (c .empty4 .ensures)
-    (row-refused (turn .loop .inv .1) (tail .before .if2 .taken) (learnt tailGot (tail .decode-tail .ensures) (c .before .before .number .given .1)))
+    (filling-row-refused (turn .loop .inv .1) (tail .before .if2 .taken) (learnt tailGot (tail .decode-tail .ensures) (c .before .before .number .given .1)))
 
 enum-known-after : tie.Need-enum-known-after Inv-loop μ-loop
 enum-known-after c = search needs
@@ -120,7 +120,7 @@ returns-4 c =
     let head = c .before .before .before .before in
     let turn = head .before .before .before in
     refused-table _ _ (c .empty5 .ensures)
-    (item-refused (turn .loop .inv .1) (head .before .before .if2 .left) (head .before .if3 .taken)
+    (filling-item-refused (turn .loop .inv .1) (head .before .before .if2 .left) (head .before .if3 .taken)
     (learnt headGot (head .decode-head .ensures) (c .before .before .number2 .given .1)))
 
 enum-known-item : tie.Need-enum-known-item Inv-loop μ-loop

@@ -2,7 +2,7 @@
 -- Assumes nothing.
 use Prim.Native.Nat.{_-_}
 use mathlib.Core.Path.{sym, _∙_}
-use Rattle.log_batch.proofs.Checking.{ItemsLeft, left-start, left-more, left-refused, left-end}
+use Rattle.log_batch.proofs.Checking.{ItemsLeft, left-start, left-next, left-refused, left-end}
 use borrow.Author.Needs.{needs}
 use Rattle.log_batch.proofs.body.check_from.Statement.{statement}
 use Rattle.log_batch.proofs.body.check_from.Tie as tie
@@ -29,7 +29,7 @@ loop-less : tie.Need-loop-less Inv-loop μ-loop
 loop-less c = search needs
 
 loop-again : tie.Need-loop-again Inv-loop μ-loop
-loop-again c = left-more _ _ (c .before .before .before .before .before .loop .inv) (c .before .before .before .before .loop-test .taken) (sym (c .before .next .given .1) ∙ c .before .before .before .pass .ensures)
+loop-again c = left-next _ _ (c .before .before .before .before .before .loop .inv) (c .before .before .before .before .loop-test .taken) (sym (c .before .next .given .1) ∙ c .before .before .before .pass .ensures)
 
 enum-known-number : tie.Need-enum-known-number Inv-loop μ-loop
 enum-known-number c = search needs

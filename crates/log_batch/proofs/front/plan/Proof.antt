@@ -2,7 +2,7 @@
 -- Assumes nothing.
 use mathlib.Core.Logic.{⊎-elim, inl, inr}
 use native.Mathlib.Omega.{arith}
-use Rattle.log_batch.proofs.Planning.{nothing, refused-body, refused-22, refused-20, refused-21, written-whole, block-small}
+use Rattle.log_batch.proofs.Planning.{nothing-written, refused-body, refused-22, refused-20, refused-21, written-whole, block-small}
 use borrow.Author.Needs.{needs}
 use Rattle.log_batch.proofs.front.plan.Statement.{statement}
 use Rattle.log_batch.proofs.front.plan.Tie as tie
@@ -11,7 +11,7 @@ new-requires : tie.Need-new-requires
 new-requires c κs = search needs
 
 returns : tie.Need-returns
-returns c = nothing _ _ _ _ (c .before .before .if1 .taken) (c .before .if2 .taken) (c .new .ensures)
+returns c = nothing-written _ _ _ _ (c .before .before .if1 .taken) (c .before .if2 .taken) (c .new .ensures)
 
 new-requires-2 : tie.Need-new-requires-2
 new-requires-2 c κs = search needs

@@ -2,7 +2,7 @@
 -- Assumes nothing.
 use borrow.Author.Tests.{not-true, not-false}
 use denote.Ref.{now}
-use Rattle.log_item.proofs.Inside.{inside-bound}
+use Rattle.log_item.proofs.Lengths.{inside-bound}
 use Rattle.log_batch.proofs.Marks.{mark-length, mark-other, mark-byte}
 use native.Mathlib.Omega.{arith}
 use borrow.Author.Needs.{needs}

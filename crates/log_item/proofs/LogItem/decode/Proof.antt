@@ -3,7 +3,7 @@
 use Rattle.log_item.specs.Answers.{headGot, tailGot}
 use Rattle.log_item.proofs.Smallest.{learnt}
 use Rattle.log_item.proofs.Known.{head-room}
-use Rattle.log_item.proofs.Passing.{item-done, item-no-tails, item-refused}
+use Rattle.log_item.proofs.Passing.{item-done, item-no-tails, item-no-head}
 use native.Mathlib.Omega.{arith}
 use borrow.Author.Needs.{needs}
 use Rattle.log_item.proofs.LogItem.decode.Statement.{statement}
@@ -53,7 +53,7 @@ returns-2 c =
     (c .before .before .before .before .entries .ensures) (learnt tailGot (c .before .before .before .skip-tails .ensures) (c .before .number .given .1))
 
 returns-3 : tie.Need-returns-3
-returns-3 c = item-refused _ _ _ _ _ (learnt headGot (c .before .before .before .decode-head .ensures) (c .before .number2 .given .1))
+returns-3 c = item-no-head _ _ _ _ _ (learnt headGot (c .before .before .before .decode-head .ensures) (c .before .number2 .given .1))
 
 pub decode-spec : {M : Type 1} → statement M
 decode-spec =

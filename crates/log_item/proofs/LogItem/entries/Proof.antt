@@ -1,6 +1,6 @@
 -- `log_item::LogItem::entries` meets its contract.
 -- Assumes nothing.
-use Rattle.log_item.proofs.Parts.{stated}
+use Rattle.log_item.proofs.Parts.{entries-same}
 use borrow.Author.Needs.{needs}
 use Rattle.log_item.proofs.LogItem.entries.Statement.{statement}
 use Rattle.log_item.proofs.LogItem.entries.Tie as tie
@@ -15,13 +15,13 @@ enum-told-2 : tie.Need-enum-told-2
 enum-told-2 c = search needs
 
 returns : tie.Need-returns
-returns c = stated (c .before .content .given .1)
+returns c = entries-same (c .before .content .given .1)
 
 returns-2 : tie.Need-returns-2
-returns-2 c = stated (c .enum-told .given .1)
+returns-2 c = entries-same (c .enum-told .given .1)
 
 returns-3 : tie.Need-returns-3
-returns-3 c = stated (c .enum-told2 .given .1)
+returns-3 c = entries-same (c .enum-told2 .given .1)
 
 pub entries-spec : {M : Type 1} → statement M
 entries-spec =

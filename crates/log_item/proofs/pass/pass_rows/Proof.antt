@@ -5,7 +5,7 @@ use Rattle.log_item.specs.Answers.{fieldGot}
 use Rattle.log_item.proofs.Smallest.{learnt}
 use Rattle.log_item.proofs.Parts.{first-none, first-done, first-too-large, first-refused}
 use Rattle.log_item.proofs.Passing.{pass-end}
-use Rattle.log_item.proofs.Going.{rows-first, rows-refused}
+use Rattle.log_item.proofs.Going.{rows-first, rows-no-first}
 use native.Mathlib.Omega.{arith}
 use borrow.Author.Needs.{needs}
 use Rattle.log_item.proofs.pass.pass_rows.Statement.{statement}
@@ -28,7 +28,7 @@ sub-if2-2 c = search needs
 
 returns-2 : tie.Need-returns-2
 returns-2 c =
-    rows-refused _ _ _ _ _ (first-too-large _ _ _ _ (c .before .before .before .before .before .if1 .left)
+    rows-no-first _ _ _ _ _ (first-too-large _ _ _ _ (c .before .before .before .before .before .if1 .left)
     (learnt fieldGot (c .before .before .before .before .read-number .ensures) (c .before .before .first .given .1)) (omega arith))
 
 skip-tails-requires : tie.Need-skip-tails-requires
@@ -44,7 +44,7 @@ returns-3 c =
 
 returns-4 : tie.Need-returns-4
 returns-4 c =
-    rows-refused _ _ _ _ _ (first-refused _ _ _ _ (c .before .before .before .before .if1 .left)
+    rows-no-first _ _ _ _ _ (first-refused _ _ _ _ (c .before .before .before .before .if1 .left)
     (learnt fieldGot (c .before .before .before .read-number .ensures) (c .before .number .given .1)))
 
 pub pass-rows-spec : {M : Type 1} → statement M

@@ -2,7 +2,7 @@
 -- Assumes nothing.
 use mathlib.Core.Path.{sym, _∙_}
 use borrow.Author.Tests.{not-true, not-false}
-use Rattle.log_item.proofs.Refusals.{key-13, key-23, key-fine, key-delete}
+use Rattle.log_item.proofs.Refusals.{key-13, key-23, key-fine, delete-fine}
 use borrow.Author.Needs.{needs}
 use Rattle.log_item.proofs.refusing.key_refusal.Statement.{statement}
 use Rattle.log_item.proofs.refusing.key_refusal.Tie as tie
@@ -29,7 +29,7 @@ returns-3 : tie.Need-returns-3
 returns-3 c = key-fine _ _ _ _ (sym (c .before .before .before .before .before .before .op-inside .ensures) ∙ not-false _ (c .before .before .before .before .before .if1 .left)) (c .before .before .enum-told .given .1) (c .before .is-forbidden .ensures) (c .if2 .left)
 
 returns-4 : tie.Need-returns-4
-returns-4 c = key-delete _ _ _ _ (sym (c .before .before .before .before .op-inside .ensures) ∙ not-false _ (c .before .before .before .if1 .left)) (c .enum-told2 .given .1)
+returns-4 c = delete-fine _ _ _ _ (sym (c .before .before .before .before .op-inside .ensures) ∙ not-false _ (c .before .before .before .if1 .left)) (c .enum-told2 .given .1)
 
 pub key-refusal-spec : {M : Type 1} → statement M
 key-refusal-spec =

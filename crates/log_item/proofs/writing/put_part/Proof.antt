@@ -1,6 +1,6 @@
 -- `log_item::writing::put_part` meets its contract.
 -- Assumes nothing.
-use Rattle.log_item.proofs.Inside.{inside-bound}
+use Rattle.log_item.proofs.Lengths.{inside-bound}
 use Rattle.log_item.proofs.Lengths.{part-named}
 use Rattle.words.proofs.Writing.{of-bytes}
 use denote.Ref.{now}

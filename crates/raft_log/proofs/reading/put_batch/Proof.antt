@@ -1,6 +1,6 @@
 -- `raft_log::reading::put_batch` meets its contract.
 -- Assumes nothing.
-use Rattle.raft_log.proofs.Replies.{batch-accepted, batch-refused}
+use Rattle.raft_log.proofs.Replies.{reply-accepted, reply-refused}
 use borrow.Author.Needs.{needs}
 use Rattle.raft_log.proofs.reading.put_batch.Statement.{statement}
 use Rattle.raft_log.proofs.reading.put_batch.Tie as tie
@@ -15,10 +15,10 @@ enum-known-check-2 : tie.Need-enum-known-check-2
 enum-known-check-2 c = search needs
 
 returns : tie.Need-returns
-returns c = batch-accepted _ _ (c .before .before .check .given .1)
+returns c = reply-accepted _ _ (c .before .before .check .given .1)
 
 returns-2 : tie.Need-returns-2
-returns-2 c = batch-refused _ _ (c .before .before .check2 .given .1)
+returns-2 c = reply-refused _ _ (c .before .before .check2 .given .1)
 
 pub put-batch-spec : {M : Type 1} → statement M
 put-batch-spec =
