@@ -5,7 +5,6 @@
 // rows of an item of entries are read in the same way, one at a time, by `next_row`. The borrow checker covers no function over the reader
 // itself, so those are few and thin, and the work is done on the slice and numbers.
 ghost use mathlib.Core.Path.{_≡_};
-ghost use Prim.Native.Nat.{_-_};
 ghost use Rattle.log_batch.specs.Seal.{sealedPart};
 ghost use Rattle.item_reader.specs.Rows.{nextRow};
 ghost use Rattle.item_reader.specs.Steps.{rowsStanding, foundAt, stayed, stepOf};

@@ -8,8 +8,6 @@ use lib.ListN.{length}
 use Rattle.log_item.specs.declared.LogItem.{LogItem}
 use Rattle.log_item.specs.declared.EntryIndex.{EntryIndex}
 use Rattle.log_item.specs.Entries.{entriesOf}
-use Rattle.log_item.specs.Each.{Each, one}
-use Rattle.log_item.specs.Each as every
 use Rattle.log_item.specs.Spelling.{Tails, no-more, next, OneItem, item}
 use Rattle.log_batch.specs.Rows.{Joined, Consecutive}
 use Rattle.log_batch.specs.Rows as lie
@@ -45,14 +43,3 @@ module _ {N : ℕ → List ℕ → Type 0} where
 pub joined-append : {t v u : ℕ} {a b : List EntryIndex} → Joined t v a → Joined v u b → Joined t u (a ++ b)
 joined-append lie.Joined.end g = g
 joined-append (lie.Joined.then e h) g = lie.Joined.then e (joined-append h g)
-
-module _ {A : Type 0} {P : A → Type 0} where
-  -- What each member of two lists has, each member of both together has.
-  pub each-append : {a b : List A} → Each P a → Each P b → Each P (a ++ b)
-  each-append every.Each.none f = f
-  each-append (one h e) f = one h (each-append e f)
-
-  -- What each member of two lists together has, each member of the one and of the other has.
-  pub each-split : (a : List A) {b : List A} → Each P (a ++ b) → Each P a × Each P b
-  each-split [] e = (every.Each.none, e)
-  each-split (r ∷ a) (one h e) = let parts = each-split a e in (one h (parts .0), parts .1)

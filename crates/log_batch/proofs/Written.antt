@@ -34,13 +34,14 @@ use Rattle.log_item.specs.declared.EntryIndex.{EntryIndex}
 use Rattle.log_item.proofs.Holds.{of-got}
 use Rattle.log_item.proofs.Numbers.{in-any}
 use Rattle.log_item.proofs.Place.{cut, at-front}
-use Rattle.log_batch.proofs.ItemRows.{each-append, item-length}
+use Rattle.log_batch.proofs.ItemRows.{item-length}
+use Rattle.log_item.proofs.Every.{each-append}
 use Rattle.log_item.proofs.Sound.{sound-item}
 use Rattle.log_item.specs.Refusing.{contentRefusal}
 use Rattle.log_item.specs.Written.{sumOf, rowLengths, itemBytes}
 use Rattle.log_item.specs.Relocated.{stated, contentAt, itemAt, itemRows, numbersOf, Small}
 use Rattle.log_item.proofs.Refusals.{content-inside, content-allowed}
-use Rattle.log_batch.proofs.ItemWritten.{Writable, first-small, written-item, read-item-at, spans-kept}
+use Rattle.log_item.proofs.ItemWritten.{Writable, first-small, written-item, read-item-at, spans-kept}
 use Rattle.list_writer.specs.declared.Encoded.{Encoded}
 use Rattle.log_item.specs.Blank.{blankItem}
 use Rattle.list_measure.specs.Bytes.{itemsOf, itemsBytes, listBytes}

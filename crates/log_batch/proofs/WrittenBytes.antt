@@ -22,7 +22,7 @@ use Rattle.log_item.specs.Written.{sumOf, rowLengths, itemBytes}
 use Rattle.log_item.specs.Each.{Each, none, one}
 use Rattle.log_item.specs.Relocated.{numbersOf, Small}
 use Rattle.log_item.proofs.Tails.{sum-rises}
-use Rattle.log_batch.proofs.ItemRows.{each-append}
+use Rattle.log_item.proofs.Every.{each-append}
 
 -- each is below 256
 abbrev pub AllBytes : List ℕ → Type 0

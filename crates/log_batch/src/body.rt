@@ -5,6 +5,7 @@ ghost use Rattle.log_batch.specs.Reading.{items, readItems};
 ghost use Rattle.log_batch.specs.Body.{readBody};
 ghost use Rattle.log_batch.specs.Answers.{checkOf, plainBody};
 use crate::BodyCheck;
+use crate::LogBatch;
 use crate::PlainForm;
 use crate::seal::check_seal;
 use log_item::Field;
@@ -31,7 +32,7 @@ pub fn check(body: &[u8], signature: u32) -> BodyCheck
             item: 0,
         });
     }
-    let n = body.len() - 4;
+    let n = body.len() - LogBatch::CHECKSUM_LEN;
     check_form(&body[..n], Form::Any)
 }
 
@@ -47,7 +48,7 @@ pub fn plain(body: &[u8], signature: u32) -> PlainForm
             total: _,
             next: _,
         } => {
-            let n = body.len() - 4;
+            let n = body.len() - LogBatch::CHECKSUM_LEN;
             match check_form(&body[..n], Form::Plain) {
                 BodyCheck::Accepted {
                     items: _,

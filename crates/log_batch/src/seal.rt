@@ -2,16 +2,17 @@
 ghost use mathlib.Core.Path.{_≡_};
 ghost use Prim.Native.Nat.{_-_};
 ghost use Rattle.log_batch.specs.Seal.{sealCheck, blockCheck};
+use crate::LogBatch;
 use words::U32Read;
 
 // Whether the last four bytes are the checksum of those before them XOR the signature: 0, or 5 or 6.
 pub fn check_seal(bytes: &[u8], signature: u32) -> u32
     ensures { λ r. ⌜ r ≡ sealCheck (now (bytes .entry)) signature ⌝ }
 {
-    if bytes.len() <= 4 {
+    if bytes.len() <= LogBatch::CHECKSUM_LEN {
         return refusal::NO_CONTENT;
     }
-    let n = bytes.len() - 4;
+    let n = bytes.len() - LogBatch::CHECKSUM_LEN;
     match words::decode_u32_le(bytes, n) {
         U32Read::Done { value, next: _ } => {
             if value == crc::crc32(&bytes[..n]) ^ signature {
@@ -38,8 +39,8 @@ pub fn check_block(block: &[u8]) -> u32
 pub fn content_len(len: usize) -> usize
     ensures { λ r. ⌜ r ≡ len - 4 ⌝ }
 {
-    if len < 4 {
+    if len < LogBatch::CHECKSUM_LEN {
         return 0;
     }
-    len - 4
+    len - LogBatch::CHECKSUM_LEN
 }

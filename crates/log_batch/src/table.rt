@@ -6,6 +6,7 @@ ghost use Rattle.log_item.specs.Blank.{blankItem, blankEntry};
 ghost use Rattle.log_batch.specs.Table.{emptyTable, tableOf, bodyTable};
 ghost use Rattle.log_batch.specs.Writing.{BodyWritten};
 ghost use mathlib.Core.Bool.{true, false};
+use crate::LogBatch;
 use crate::LogItemBatch;
 use crate::seal::check_seal;
 use codec::NumberRead;
@@ -77,7 +78,7 @@ impl LogItemBatch {
         if broken != refusal::NONE {
             return LogItemBatch::empty(broken, 0);
         }
-        let n = body.len() - 4;
+        let n = body.len() - LogBatch::CHECKSUM_LEN;
         LogItemBatch::fill(&body[..n], body.len())
     }
 
@@ -143,9 +144,7 @@ impl LogItemBatch {
             }
         }
     }
-}
 
-impl LogItemBatch {
     // Writes the table's items as a body under a signature, from the start of out on, or leaves out as it was and says why. Of the table
     // only the items and the lengths of the entry rows count; `store` has the bytes that the items' spans lie in. A put whose key begins
     // with the internal prefix is refused with 23.

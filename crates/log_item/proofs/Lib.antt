@@ -2,11 +2,12 @@ pub mod Holds
 pub mod Smallest
 pub mod NumberGot
 pub mod Starts
-pub mod Going
-pub mod Short
+pub mod Every
 pub mod Fields
 pub mod Parts
 pub mod Passing
+pub mod Going
+pub mod Short
 pub mod Known
 pub mod Place
 pub mod Numbers
@@ -16,9 +17,10 @@ pub mod Forms
 pub mod Agree
 pub mod One
 pub mod Lengths
-pub mod Pieces
 pub mod Stores
+pub mod Pieces
 pub mod Tails
 pub mod Refusals
 pub mod Items
+pub mod ItemWritten
 pub mod Determined

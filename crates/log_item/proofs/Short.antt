@@ -1,4 +1,4 @@
--- A number of two or three bytes, read in any form.
+-- A number of two or three bytes, read in the form Any.
 -- Assumes nothing.
 use Prim.Native.Nat.{ℕ, _+_, _-_, _*_, _^_, _%_, _≤_, _<_}
 use mathlib.Core.Path.{_≡_, sym, ap, _∙_}

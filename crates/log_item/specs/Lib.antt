@@ -1,7 +1,5 @@
 pub mod Got
 pub mod Pieces
-pub mod Prefix
-pub mod PassingPrivate
 pub mod Entries
 pub mod Reading
 pub mod Answers
@@ -10,8 +8,10 @@ pub mod Each
 pub mod Limits
 pub mod Spelling
 pub mod Place
+pub mod Prefix
 pub mod Bytes
 pub mod Refusing
 pub mod Written
 pub mod Relocated
 pub mod Private
+pub mod PassingPrivate

@@ -1,4 +1,4 @@
-// An entries item: its first index, and the way over its tails.
+// An entries item: its first index, and the way over its tails. Its count, and one tail by itself, are read in lib.rt.
 ghost use mathlib.Core.Path.{_≡_};
 ghost use Rattle.log_item.specs.Pieces.{number};
 ghost use Rattle.log_item.specs.Reading.{firstIndex, tail};

@@ -1,4 +1,4 @@
-// Going over an item without making it: what the readers of lib.rt read, in their order, with what is read left out.
+// Going over an item without making it: what decode_head and skip_tails read, in their order, with the item left out.
 ghost use mathlib.Core.Path.{_≡_};
 ghost use Rattle.log_item.specs.Pieces.{span};
 ghost use Rattle.log_item.specs.Reading.{command, keyValue};

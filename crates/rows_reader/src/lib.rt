@@ -13,6 +13,7 @@ ghost use Rattle.rows_reader.specs.Lent.{Filled, RowsRead};
 ghost use Rattle.rows_reader.specs.Private.{Words, Fits};
 use codec::NumberRead;
 use log_batch::BodyCheck;
+use log_batch::LogBatch;
 use log_batch::Wanted;
 use log_item::Command;
 use log_item::EntryIndexes;
@@ -40,7 +41,7 @@ pub fn read_body(
     if broken != refusal::NONE {
         return refuse(broken);
     }
-    let n = body.len() - 4;
+    let n = body.len() - LogBatch::CHECKSUM_LEN;
     read_items(&body[..n], wanted, items, entries)
 }
 

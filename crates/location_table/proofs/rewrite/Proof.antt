@@ -32,7 +32,7 @@ use denote.Lend.{Held, lends-shr-slice, lends-slice, slice-back}
 use denote.Memory.{mem, shares}
 use denote.Plain.{uint-makes, uint-vals, uint-tells, uint-lawful}
 use denote.RattleType.{owns}
-use denote.Ref.{now, RefT}
+use denote.Ref.{RefT}
 use denote.Slice.{sliceVal, ShrSlice, MutSlice}
 use denote.Steps.{owned, nothing, only, peeks, heard}
 use denote.Triple.Call.{calls-at}

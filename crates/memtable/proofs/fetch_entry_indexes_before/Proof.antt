@@ -28,7 +28,7 @@ use denote.Laws.{Is, shows}
 use denote.Memory.{mem}
 use denote.Plain.{uint-makes, uint-vals, uint-tells, uint-lawful, Boolean, bool-lawful, bool-makes}
 use denote.RattleType.{owns}
-use denote.Ref.{now, RefT}
+use denote.Ref.{RefT}
 use denote.Signature.{plain}
 use denote.Slice.{sliceVal, ShrSlice, slice-vals, shr-slice-tells, shr-slice-copy, Room}
 use denote.Steps.{owned, nothing, only, peeks, heard}

@@ -36,7 +36,7 @@ use denote.Lend.{lends-shr-slice}
 use denote.Memory.{mem, shares}
 use denote.Plain.{uint-makes, uint-vals, uint-tells, uint-lawful, Boolean, bool-lawful, Nothing, bool-makes}
 use denote.RattleType.{owns}
-use denote.Ref.{now, RefT}
+use denote.Ref.{RefT}
 use denote.Shadow.{pureI}
 use denote.Signature.{plain}
 use denote.Slice.{sliceVal, ShrSlice, slice-vals, shr-slice-tells, shr-slice-copy, Room, MutSlice, at-slice, mut-slice-tells, finally}

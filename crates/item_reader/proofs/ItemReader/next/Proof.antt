@@ -31,7 +31,7 @@ use denote.Laws.{Is, shows}
 use denote.Memory.{mem}
 use denote.Plain.{uint-makes}
 use denote.Builtin.{u8, u32, usize}
-use denote.Ref.{RefT, MutRef, now, ptr-vals, mut-tells}
+use denote.Ref.{RefT, MutRef, ptr-vals, mut-tells}
 use denote.Signature.{Slot, plain, namedLft}
 use denote.Slice.{sliceVal, ShrSlice}
 use denote.Steps.{only, opens, closes, owned, peeks, heard, nothing}

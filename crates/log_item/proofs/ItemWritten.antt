@@ -1,4 +1,4 @@
--- What is written is spelled, in shortest numbers, and so it is read back.
+-- What is written of an item is spelled, in shortest numbers, and so it is read back.
 -- Assumes nothing.
 use Prim.Native.Nat.{ℕ, zero, suc, _+_, _-_, _≤_, _<_, _^_}
 use mathlib.Core.Path.{_≡_, refl, ap, _∙_}
@@ -11,38 +11,37 @@ use lib.Dec.{ltb, leb, lit<}
 use borrow.Author.Tests.{ltb-false, leb-true}
 use Rattle.numbers.specs.Shortest.{shortest}
 use Rattle.words.specs.Write.{placed}
 use Rattle.log_item.specs.Got.{got}
 use Rattle.log_item.specs.Entries.{entriesOf, typeOf}
 use Rattle.log_item.specs.Each.{Each, none, one}
 use Rattle.log_item.specs.Limits.{RowFits}
 use Rattle.log_item.specs.Spelling.{NumberIn, Spanned, spanned, Contents, no-entries, entries, clean, compact, put, delete, Tails, no-more, next, OneItem, item}
 use Rattle.log_item.specs.Place.{At}
 use Rattle.log_item.specs.Private.{Room}
 use Rattle.log_item.specs.Prefix.{bytesOf, inside}
 use Rattle.log_item.specs.Reading.{oneItem}
 use Rattle.log_item.specs.declared.Form.{Form}
 use Rattle.log_item.specs.declared.Form.the-variants.{Plain}
 use Rattle.log_item.specs.declared.Span.{Span}
-use Rattle.log_item.specs.declared.Command.{Command}
 use Rattle.log_item.specs.declared.Command.the-variants.{Clean, Compact}
 use Rattle.log_item.specs.declared.Op.{Op}
 use Rattle.log_item.specs.declared.Op.the-variants.{Put, Del}
 use Rattle.log_item.specs.declared.LogItemContent.{LogItemContent}
 use Rattle.log_item.specs.declared.LogItemContent.the-variants as contents
 use Rattle.log_item.specs.declared.LogItem.{LogItem}
 use Rattle.log_item.specs.declared.EntryIndex.{EntryIndex}
 use Rattle.log_item.proofs.Place.{cut}
 use Rattle.log_item.proofs.Forms.{in-form}
 use Rattle.log_item.proofs.Complete.{complete-item}
 use Rattle.log_item.specs.Bytes.{spanBytes, commandBytes, opBytes, entriesBytes, contentBytes, headBytes, tailsBytes}
 use Rattle.log_item.specs.Refusing.{opInside, contentInside, contentRefusal}
 use Rattle.refusal.proofs.First.{neither-refused, untaken, taken}
 use Rattle.log_item.specs.Written.{sumOf, rowLengths, itemBytes, tailRefusal, itemRefusal}
 use Rattle.log_item.specs.Relocated.{spanAt, keyAt, stated, contentAt, itemAt, rowsFrom, itemRows, spansOf, numbersOf, Small}
 use Rattle.log_item.proofs.Lengths.{part-length, span-length}
 use Rattle.log_item.proofs.Refusals.{content-inside, content-allowed}
 use Rattle.log_item.proofs.Stores.{stored-placed, stored-stands}
 use Rattle.log_item.proofs.Tails.{sum-rises}
 
 -- ---- pieces
 
