@@ -14,16 +14,7 @@ use borrow.Author.Tests.{lt-ltb, le-ltb, le-leb, lt-leb}
 use Rattle.numbers.specs.declared.NumberRead.{NumberRead}
 use Rattle.numbers.specs.declared.NumberRead.the-variants.{Done, Eof, Overflow}
 use Rattle.numbers.specs.Number.{under, readFrom, readNumber}
-
--- the number v, below a number that starts at bit k
-abbrev pub onto : ℕ → ℕ → NumberRead → NumberRead
-onto v k (Done n next) = Done (v + n * 2 ^ k) next
-onto v k Eof = Eof
-onto v k Overflow = Overflow
-
--- what is left to read after j bytes of the number at a place
-unfoldable pub leftAfter : List ℕ → ℕ → ℕ → NumberRead
-leftAfter s at j = readFrom (9 - j) (drop (at + j) s) (at + j)
+use Rattle.numbers.specs.Private.{onto, leftAfter, SoFar}
 
 onto-under : (v k b : ℕ) (r : NumberRead) → onto v k (under b r) ≡ onto (v + (b - 128) * 2 ^ k) (k + 7) r
 onto-under v k b (Done n next) =
@@ -158,3 +149,22 @@ first-two s at a b room ea eb more t =
     let p : at + 1 + 1 ≡ at + 2 = omega arith in
     ap (λ (q : ℕ). Done (a - 128 + (b * 2 ^ 7) % 2 ^ 64) q) (sym p)
     ∙ turn-last s at _ 1 (a - 128) (first-long s at a (omega arith) ea more) b eb (omega arith) room t
+
+-- ---- what is read so far
+
+-- one byte, whose top bit is set
+pub so-far-one : (s : List ℕ) (at b : ℕ) → at < length s → b ≡ getD s at 0 → 128 ≤ b → b < 256 → SoFar s at 1 (b - 128)
+so-far-one s at b h e t u = record {
+  small = omega arith;
+  whole = first-long s at b h e t;
+}
+
+module _ (s : List ℕ) (at j v : ℕ) (f : SoFar s at j v) (b : ℕ) (eb : b ≡ getD s (at + j) 0) (h : j < 9) (hl : at + j < length s) where
+  pub so-far-more : 128 ≤ b → b < 256 → SoFar s at (j + 1) (v + ((b - 128) * 2 ^ (7 * j)) % 2 ^ 64)
+  so-far-more t u = record {
+    small = grown v (b - 128) j h (omega arith) (f .small);
+    whole = turn-more s at _ j v (f .whole) b eb h hl t u;
+  }
+
+  pub so-far-last : {q : ℕ} → q ≡ at + j + 1 → b < 128 → Done (v + (b * 2 ^ (7 * j)) % 2 ^ 64) q ≡ readNumber s at
+  so-far-last e t = ap (λ (q : ℕ). Done (v + (b * 2 ^ (7 * j)) % 2 ^ 64) q) e ∙ turn-last s at _ j v (f .whole) b eb h hl t

@@ -1,3 +1,4 @@
 pub mod Spelling
 pub mod Number
 pub mod Shortest
+pub mod Private

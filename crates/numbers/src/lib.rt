@@ -2,10 +2,11 @@
 //
 // Every public function takes any arguments. A place may lie anywhere, past the end too.
 ghost use mathlib.Core.Path.{_≡_};
-ghost use Prim.Native.Nat.{_-_, _<_, _≤_, min};
-ghost use lib.ListN.{length, getD};
+ghost use Prim.Native.Nat.{_+_, _-_, _<_, _≤_, min};
+ghost use lib.ListN.{length};
 ghost use Rattle.numbers.specs.Number.{readNumber};
 ghost use Rattle.numbers.specs.Shortest.{shortest};
+ghost use Rattle.numbers.specs.Private.{SoFar};
 use words::least;
 use words::wide;
 
@@ -37,11 +38,11 @@ pub fn decode_var_u64(buf: &[u8], at: usize) -> NumberRead
             next: at + 1,
         };
     }
-    decode_up_to(buf, at, first, least(buf.len() - at, 9))
+    decode_up_to(buf, at, first - 128, 1, least(buf.len() - at, 9))
 }
 
-// The same, quicker for a number by itself and too large to be put in line at many places: two bytes are a case of their own, and the loop
-// over nine bytes is unrolled.
+// The same, quicker for a number by itself and too large to be put in line at many places: two to five bytes are a case of their own each,
+// and the loop over the others is unrolled.
 pub fn decode_var_u64_unrolled(buf: &[u8], at: usize) -> NumberRead
     ensures { λ r. ⌜ r ≡ readNumber (now (buf .entry)) at ⌝ }
 {
@@ -65,16 +66,47 @@ pub fn decode_var_u64_unrolled(buf: &[u8], at: usize) -> NumberRead
             next: at + 2,
         };
     }
-    decode_up_to(buf, at, first, 9)
+    decode_longer(buf, at, first - 128 + ((second - 128) << 7))
 }
 
-// The same where the first byte, which is known, has its top bit set, by a loop over `end` bytes: nine, or all where fewer are left.
-fn decode_up_to(buf: &[u8], at: usize, first: u64, end: usize) -> NumberRead
-    requires { ⌜ (at < length (now buf)) × (first ≡ getD (now buf) at 0) × (128 ≤ first) × (first < 256) × (end ≡ min (length (now buf) - at) 9) ⌝ }
+// The same where two bytes, which say `two`, were not the last, and nine are there.
+fn decode_longer(buf: &[u8], at: usize, two: u64) -> NumberRead
+    requires { ⌜ (at + 8 < length (now buf)) × SoFar (now buf) at 2 two ⌝ }
     ensures { λ r. ⌜ r ≡ readNumber (now (buf .entry)) at ⌝ }
 {
-    let mut value = first - 128;
-    let mut j: usize = 1;
+    let third = wide(buf[at + 2]);
+    if third < 128 {
+        return NumberRead::Done {
+            value: two + (third << 14),
+            next: at + 3,
+        };
+    }
+    let three = two + ((third - 128) << 14);
+    let fourth = wide(buf[at + 3]);
+    if fourth < 128 {
+        return NumberRead::Done {
+            value: three + (fourth << 21),
+            next: at + 4,
+        };
+    }
+    let four = three + ((fourth - 128) << 21);
+    let fifth = wide(buf[at + 4]);
+    if fifth < 128 {
+        return NumberRead::Done {
+            value: four + (fifth << 28),
+            next: at + 5,
+        };
+    }
+    decode_up_to(buf, at, four + ((fifth - 128) << 28), 5, 9)
+}
+
+// The same where `from` bytes, which say `start`, were not the last, by a loop up to `end` bytes: nine, or all where fewer are left.
+fn decode_up_to(buf: &[u8], at: usize, start: u64, from: usize, end: usize) -> NumberRead
+    requires { ⌜ (at < length (now buf)) × (1 ≤ from) × (from ≤ end) × (end ≡ min (length (now buf) - at) 9) × SoFar (now buf) at from start ⌝ }
+    ensures { λ r. ⌜ r ≡ readNumber (now (buf .entry)) at ⌝ }
+{
+    let mut value = start;
+    let mut j = from;
     while j < end {
         let b = wide(buf[at + j]);
         if b < 128 {

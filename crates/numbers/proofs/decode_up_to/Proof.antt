@@ -5,22 +5,20 @@ use mathlib.Core.Path.{_≡_}
 use native.Mathlib.Omega.{arith}
 use borrow.Author.Needs.{needs}
 use Rattle.numbers.specs.Number.{readNumber}
-use Rattle.numbers.proofs.Reading.{onto, leftAfter, first-long, grown, grown-fits, turn-last, turn-more, turn-short, turn-over, turn-tenth}
+use Rattle.numbers.specs.Private.{onto, leftAfter}
+use Rattle.numbers.proofs.Reading.{grown, grown-fits, turn-last, turn-more, turn-short, turn-over, turn-tenth}
 use Rattle.numbers.proofs.decode_up_to.Statement.{statement}
 use Rattle.numbers.proofs.decode_up_to.Tie as tie
 
 abbrev Inv-loop : tie.InvT-loop
-Inv-loop buf at first end value₀ j₀ value j =
+Inv-loop buf at start from end value₀ j₀ value j =
     (1 ≤ j) × (j ≤ end) × (value < 2 ^ (7 * j)) × (readNumber buf at ≡ onto value (7 * j) (leftAfter buf at j))
 
 abbrev μ-loop : tie.MeasureT-loop
-μ-loop buf at first end value₀ j₀ value j = end - j
-
-sub-value : tie.Need-sub-value Inv-loop μ-loop
-sub-value c = search needs
+μ-loop buf at start from end value₀ j₀ value j = end - j
 
 loop-holds : tie.Need-loop-holds Inv-loop μ-loop
-loop-holds c = (search needs, search needs, search needs, first-long _ _ _ (c .before .pre .0) (c .before .pre .1) (c .before .pre .2))
+loop-holds c = (search needs, search needs, c .before .pre .4 .small, c .before .pre .4 .whole)
 
 add-wide : tie.Need-add-wide Inv-loop μ-loop
 add-wide c = search needs
@@ -31,23 +29,23 @@ shared-slice-read-wide c = search needs
 wide-requires : tie.Need-wide-requires Inv-loop μ-loop
 wide-requires c κs = search needs
 
-mul-t13 : tie.Need-mul-t13 Inv-loop μ-loop
-mul-t13 c = search needs
+mul-t14 : tie.Need-mul-t14 Inv-loop μ-loop
+mul-t14 c = search needs
 
-shl-t15 : tie.Need-shl-t15 Inv-loop μ-loop
-shl-t15 c = search needs
+shl-t16 : tie.Need-shl-t16 Inv-loop μ-loop
+shl-t16 c = search needs
 
-add-t16 : tie.Need-add-t16 Inv-loop μ-loop
-add-t16 c =
+add-t17 : tie.Need-add-t17 Inv-loop μ-loop
+add-t17 c =
     let l = c .before .before .before .before .loop in
     let known = c .before .before .shared-slice-known2 .given (c .before .before .before .before .before .before .args .at + l .j) in
     record { fits = grown-fits (l .value) (c .before .wide .result) (l .j) (omega arith) (omega arith) (l .inv .2) }
 
-add-t17 : tie.Need-add-t17 Inv-loop μ-loop
-add-t17 c = search needs
-
 add-t18 : tie.Need-add-t18 Inv-loop μ-loop
 add-t18 c = search needs
+
+add-t19 : tie.Need-add-t19 Inv-loop μ-loop
+add-t19 c = search needs
 
 returns : tie.Need-returns Inv-loop μ-loop
 returns c =
@@ -111,15 +109,15 @@ returns-4 c =
     let nine : l .j ≡ 9 = omega arith in
     turn-over _ _ _ (l .value) (rw nine at (l .inv .3)) (c .before .wide2 .result) (c .before .wide2 .ensures) (omega arith) (omega arith)
 
-add-t28 : tie.Need-add-t28 Inv-loop μ-loop
-add-t28 c =
+add-t29 : tie.Need-add-t29 Inv-loop μ-loop
+add-t29 c =
     let l = c .before .before .before .before .before .before .loop in
     let nine : l .j ≡ 9 = omega arith in
     let small : l .value < 2 ^ 63 = rw nine at (l .inv .2) in
     omega arith
 
-add-t24 : tie.Need-add-t24 Inv-loop μ-loop
-add-t24 c = search needs
+add-t25 : tie.Need-add-t25 Inv-loop μ-loop
+add-t25 c = search needs
 
 returns-5 : tie.Need-returns-5 Inv-loop μ-loop
 returns-5 c =
@@ -133,16 +131,15 @@ decode-up-to-spec =
     (tie.spec
     Inv-loop
     μ-loop
-    sub-value
     loop-holds
     add-wide
     shared-slice-read-wide
     wide-requires
-    mul-t13
-    shl-t15
-    add-t16
+    mul-t14
+    shl-t16
     add-t17
     add-t18
+    add-t19
     returns
     mul-value
     shl-value
@@ -157,6 +154,6 @@ decode-up-to-spec =
     shared-slice-read-wide-2
     wide-requires-2
     returns-4
-    add-t28
-    add-t24
+    add-t29
+    add-t25
     returns-5)

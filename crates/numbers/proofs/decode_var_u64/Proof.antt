@@ -3,7 +3,7 @@
 use mathlib.Core.Path.{sym}
 use native.Mathlib.Omega.{arith}
 use borrow.Author.Needs.{needs}
-use Rattle.numbers.proofs.Reading.{first-short, first-one}
+use Rattle.numbers.proofs.Reading.{first-short, first-one, so-far-one}
 use Rattle.numbers.proofs.decode_var_u64.Statement.{statement}
 use Rattle.numbers.proofs.decode_var_u64.Tie as tie
 
@@ -31,7 +31,7 @@ least-requires c κs = search needs
 decode-up-to-requires : tie.Need-decode-up-to-requires
 decode-up-to-requires c κs =
     let known = c .before .before .before .shared-slice-known2 .given (c .before .before .before .before .before .before .args .at) in
-    (search needs, c .before .before .wide .ensures, search needs, omega arith, c .least .ensures)
+    (search needs, omega arith, omega arith, c .least .ensures, so-far-one _ _ _ (omega arith) (c .before .before .wide .ensures) (omega arith) (omega arith))
 
 returns-3 : tie.Need-returns-3
 returns-3 c = search needs

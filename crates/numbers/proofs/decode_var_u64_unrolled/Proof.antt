@@ -1,9 +1,10 @@
--- `numbers::decode_var_u64_unrolled` meets its contract: fewer than nine bytes by `decode_var_u64`, one byte and two by themselves, the rest by the loop.
+-- `numbers::decode_var_u64_unrolled` meets its contract: fewer than nine bytes by `decode_var_u64`, one byte and two by themselves, the rest by `decode_longer`.
 -- Assumes nothing.
+use Prim.Native.Nat.{_+_}
 use mathlib.Core.Path.{sym}
 use native.Mathlib.Omega.{arith}
 use borrow.Author.Needs.{needs}
-use Rattle.numbers.proofs.Reading.{first-short, first-one, first-two}
+use Rattle.numbers.proofs.Reading.{first-short, first-one, first-two, so-far-one, so-far-more}
 use Rattle.numbers.proofs.decode_var_u64_unrolled.Statement.{statement}
 use Rattle.numbers.proofs.decode_var_u64_unrolled.Tie as tie
 
@@ -53,10 +54,19 @@ returns-4 : tie.Need-returns-4
 returns-4 c =
     first-two _ _ _ _ (omega arith) (c .before .before .before .before .wide .ensures) (c .before .wide2 .ensures) (c .before .before .before .if3 .left) (c .if4 .taken)
 
-decode-up-to-requires : tie.Need-decode-up-to-requires
-decode-up-to-requires c κs =
+add-decode-longer : tie.Need-add-decode-longer
+add-decode-longer c =
     let known = c .before .before .before .before .before .shared-slice-known2 .given (c .before .before .before .before .before .before .before .before .before .args .at) in
-    (search needs, c .before .before .before .before .wide .ensures, search needs, omega arith, omega arith)
+    omega arith
+
+decode-longer-requires : tie.Need-decode-longer-requires
+decode-longer-requires c κs =
+    let known = c .before .before .before .before .before .shared-slice-known2 .given (c .before .before .before .before .before .before .before .before .before .args .at) in
+    let known2 = c .before .before .shared-slice-known3 .given (c .before .before .before .before .before .before .before .before .before .args .at + 1) in (
+      omega arith,
+      so-far-more _ _ 1 _ (so-far-one _ _ _ (omega arith) (c .before .before .before .before .wide .ensures) (omega arith) (omega arith)) _ (c .before .wide2 .ensures)
+          (omega arith) (omega arith) (omega arith) (omega arith),
+    )
 
 returns-5 : tie.Need-returns-5
 returns-5 c = search needs
@@ -79,5 +89,6 @@ decode-var-u64-unrolled-spec =
     add-t14
     add-t15
     returns-4
-    decode-up-to-requires
+    add-decode-longer
+    decode-longer-requires
     returns-5)
