@@ -1,5 +1,4 @@
 pub mod Sealing
-pub mod Sealed
 pub mod Accepts
 pub mod ItemRows
 pub mod Listing

@@ -1,4 +1,4 @@
--- What testing a seal and a block comes to: a law for each way out of the code. And what a right seal is.
+-- What testing a seal and a block comes to: a law for each way out of the code. What a right seal is, and what a seal says of its body's reading.
 -- Assumes nothing.
 use Prim.Native.Nat.{ℕ, _+_, _-_, _≤_, _<_}
 use mathlib.Core.Path.{_≡_, sym, ap, _∙_}
@@ -9,11 +9,14 @@ use lib.Bits.{bitXor}
 use lib.Dec.{leb, eqb}
 use lib.ListN.{length, drop, length-append, length-drop}
 use lib.Seq.{take-all, take-at, drop-at}
-use Rattle.refusal.proofs.First.{untaken, taken}
+use Rattle.refusal.proofs.First.{untaken, taken, other-answer}
 use Rattle.words.specs.Word.{littleEndian, readU32}
 use Rattle.words.specs.declared.U32Read.the-variants.{Done, Eof}
 use Rattle.crc.specs.Crc.{crcOf}
-use Rattle.log_batch.specs.Seal.{sealedPart, footer, sealCheck, blockCheck}
+use Rattle.log_item.specs.declared.Form.the-variants.{Any}
+use Rattle.log_batch.specs.Seal.{contentLength, sealedPart, footer, sealCheck, blockCheck}
+use Rattle.log_batch.specs.Reading.{rejected, readItems}
+use Rattle.log_batch.specs.Body.{readBody}
 
 module _ (b : List ℕ) (signature : ℕ) where
   pub seal-short : length b ≤ 4 → 5 ≡ sealCheck b signature
@@ -22,17 +25,17 @@ module _ (b : List ℕ) (signature : ℕ) where
 
   module _ (long : 4 < length b) where
     -- the word at the last four bytes is the footer
-    word : readU32 b (length b - 4) ≡ Done (footer b) (length b - 4 + 4)
+    word : readU32 b (contentLength b) ≡ Done (footer b) (contentLength b + 4)
     unfolding readU32
     word =
-        let fits : length b - 4 + 4 ≤ length b = omega arith in
-        let four : length (drop (length b - 4) b) ≤ 4 = omega (arith, length-drop (length b - 4) b) in
-        rw (le-leb _ _ fits, take-all 4 (drop (length b - 4) b) four)
+        let fits : contentLength b + 4 ≤ length b = omega arith in
+        let four : length (drop (contentLength b) b) ≤ 4 = omega (arith, length-drop (contentLength b) b) in
+        rw (le-leb _ _ fits, take-all 4 (drop (contentLength b) b) four)
 
-    same : {w q : ℕ} → readU32 b (length b - 4) ≡ Done w q → w ≡ footer b
+    same : {w q : ℕ} → readU32 b (contentLength b) ≡ Done w q → w ≡ footer b
     same e = cc word
 
-    module _ {w q c : ℕ} (e : readU32 b (length b - 4) ≡ Done w q) (k : c ≡ crcOf (sealedPart b)) where
+    module _ {w q c : ℕ} (e : readU32 b (contentLength b) ≡ Done w q) (k : c ≡ crcOf (sealedPart b)) where
       pub seal-right : w ≡ bitXor c signature → 0 ≡ sealCheck b signature
       unfolding sealCheck
       seal-right h =
@@ -47,7 +50,7 @@ module _ (b : List ℕ) (signature : ℕ) where
           rw (lt-leb _ _ long, ne-eqb _ _ f)
 
     -- there are four bytes
-    pub seal-there : {r : ℕ} → readU32 b (length b - 4) ≡ Eof → r ≡ sealCheck b signature
+    pub seal-there : {r : ℕ} → readU32 b (contentLength b) ≡ Eof → r ≡ sealCheck b signature
     seal-there e = let z : _≡_ {A = ℕ} 0 1 = cc word in absurd (omega arith)
 
 -- ---- a right seal
@@ -72,12 +75,12 @@ seal-long b signature e = sealed b signature e .long
 -- Of a part and four bytes behind it, the sealed part and the footer are these.
 pub part-of : (rest last : List ℕ) → length last ≡ 4 → sealedPart (rest ++ last) ≡ rest
 part-of rest last four =
-    let long : length rest ≡ length (rest ++ last) - 4 = omega (arith, length-append rest last) in
+    let long : length rest ≡ contentLength (rest ++ last) = omega (arith, length-append rest last) in
     take-at rest last _ long
 
 pub footer-of : (rest last : List ℕ) → length last ≡ 4 → footer (rest ++ last) ≡ littleEndian last
 footer-of rest last four =
-    let long : length rest ≡ length (rest ++ last) - 4 = omega (arith, length-append rest last) in
+    let long : length rest ≡ contentLength (rest ++ last) = omega (arith, length-append rest last) in
     ap littleEndian (drop-at rest last _ long)
 
 -- Where the part is not empty and the four bytes are its checksum XOR the signature, the seal is right.
@@ -97,3 +100,15 @@ block-none b h = rw (eq-eqb _ _ h)
 pub block-some : (b : List ℕ) {r : ℕ} → (length b ≡ 0 → ⊥) → r ≡ sealCheck b 0 → r ≡ blockCheck b
 unfolding blockCheck
 block-some b h e = rw (ne-eqb _ _ h) e
+
+-- ---- the reading of a body
+
+module _ (b : List ℕ) (signature : ℕ) where
+  -- A broken seal is what the body's reading answers; behind a good one it is what stands before the footer.
+  pub body-refused : {n : ℕ} → n ≡ sealCheck b signature → (n ≡ 0 → ⊥) → readBody b signature ≡ rejected n 0
+  unfolding readBody
+  body-refused {n} e h = rw (← e) (sym (other-answer n _ _ h))
+
+  pub body-sealed : {n : ℕ} → n ≡ sealCheck b signature → n ≡ 0 → readBody b signature ≡ readItems Any (sealedPart b)
+  unfolding readBody
+  body-sealed e h = rw (← e, h)

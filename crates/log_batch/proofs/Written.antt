@@ -52,13 +52,12 @@ use Rattle.log_batch.proofs.ListWritten.{items-fine, Encodes, writes, l
 use Rattle.log_batch.specs.declared.LogItemBatch.{LogItemBatch}
 use Rattle.log_batch.specs.Reading.{accepted, rejected}
 use Rattle.log_batch.specs.Seal.{sealCheck}
-use Rattle.log_batch.proofs.Sealing.{part-of, footer-of}
+use Rattle.log_batch.proofs.Sealing.{part-of, footer-of, body-refused}
 use Rattle.log_batch.specs.Body.{readBody}
 use Rattle.log_batch.specs.Writing as table
 use Rattle.log_batch.specs.Writing.{listed, BodyWritten, itemsAt, rowsAt, bodyItems, bodyRows, keysAndContents, AllSmall}
 use Rattle.log_batch.proofs.Listing.{spells-as, spells-some}
 use Rattle.log_batch.proofs.Bodies.{complete-body}
-use Rattle.log_batch.proofs.Sealed.{body-refused}
 use Rattle.log_batch.proofs.WrittenBytes.{AllBytes, bytes-all, shortest-bytes, item-bytes}
 
 -- ---- an item that is not refused

@@ -8,7 +8,6 @@ use Rattle.log_item.specs.declared.EntryIndex.{EntryIndex}
 use Rattle.log_item.specs.Each.{Each}
 use Rattle.log_item.specs.Limits.{RowFits}
 
--- The ceilings of a batch.
 pub record Within (xs : List LogItem) (rows : List EntryIndex) : Type 0 where
   pub items : length xs ≤ 256
   pub entries : length rows ≤ 1024

@@ -9,12 +9,15 @@ use lib.ListN.{length, take, drop}
 use Rattle.words.specs.Word.{littleEndian}
 use Rattle.crc.specs.Crc.{crcOf}
 
--- what stands before the last four bytes, and the word that these are
+-- what stands before the last four bytes, how long it is, and the word that these are
+abbrev pub contentLength : List ℕ → ℕ
+contentLength b = length b - 4
+
 abbrev pub sealedPart : List ℕ → List ℕ
-sealedPart b = take (length b - 4) b
+sealedPart b = take (contentLength b) b
 
 abbrev pub footer : List ℕ → ℕ
-footer b = littleEndian (drop (length b - 4) b)
+footer b = littleEndian (drop (contentLength b) b)
 
 -- 5 where there are four bytes or fewer, 6 where the checksum is wrong, else 0
 unfoldable pub sealCheck : List ℕ → ℕ → ℕ
@@ -23,7 +26,3 @@ sealCheck b signature = cond (leb (length b) 4) 5 (cond (eqb (footer b) (bitXor 
 -- a block: empty, or content and its unsigned checksum
 unfoldable pub blockCheck : List ℕ → ℕ
 blockCheck b = cond (eqb (length b) 0) 0 (sealCheck b 0)
-
--- how long the content of a block is
-abbrev pub contentLength : List ℕ → ℕ
-contentLength b = length b - 4

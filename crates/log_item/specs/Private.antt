@@ -4,7 +4,6 @@ use Prim.Native.Nat.{ℕ, _+_, _≤_, min}
 use mathlib.Core.Path.{_≡_}
 use mathlib.Core.Bool.{cond}
 use mathlib.Core.List.{List}
-use lib.Dec.{ltb}
 use lib.ListN.{length}
 use lib.Seq.{sets}
 use Rattle.numbers.specs.Shortest.{shortest}
@@ -15,7 +14,7 @@ use Rattle.log_item.specs.declared.LogItemContent.{LogItemContent}
 use Rattle.log_item.specs.declared.LogItemContent.the-variants as contents
 use Rattle.log_item.specs.declared.LogItem.{LogItem}
 use Rattle.log_item.specs.Bytes.{entriesBytes, commandBytes, tailsBytes}
-use Rattle.log_item.specs.Written.{sumOf}
+use Rattle.log_item.specs.Written.{sumOf, tailAbove}
 use Rattle.log_item.specs.declared.TailsSize.{TailsSize}
 use Rattle.log_item.specs.declared.TailsSize.the-variants.{Fine, TooLarge}
 use Rattle.log_item.specs.Got.{Got, got, refused}
@@ -78,4 +77,4 @@ unfoldable pub headLength : LogItem → ℕ
 headLength x = length (shortest (x .«raft_group_id»)) + (1 + itemContentLength (x .content))
 
 unfoldable pub tailsSize : List ℕ → ℕ → TailsSize
-tailsSize lengths t = cond (ltb 4294967295 (sumOf t lengths)) TooLarge (Fine (fitted (length (tailsBytes lengths t))) (sumOf t lengths))
+tailsSize lengths t = cond (tailAbove lengths t) TooLarge (Fine (fitted (length (tailsBytes lengths t))) (sumOf t lengths))

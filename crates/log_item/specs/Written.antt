@@ -65,9 +65,13 @@ rowLengths x lengths = take (entriesOf (x .content) .count) lengths
 unfoldable pub itemBytes : List ℕ → LogItem → List ℕ → ℕ → List ℕ
 itemBytes s x lengths t = headBytes s x ++ tailsBytes (rowLengths x lengths) t
 
--- 16 where a tail is above 4,294,967,295. No tail is below the one before it, so that is where the last one is, which is the total after the item.
+-- A tail is above 4,294,967,295. No tail is below the one before it, so that is where the last one is, which is the total behind the lengths.
+abbrev pub tailAbove : List ℕ → ℕ → Bool
+tailAbove lengths t = ltb 4294967295 (sumOf t lengths)
+
+-- 16 where a tail of the item is
 abbrev pub tailRefusal : LogItem → List ℕ → ℕ → ℕ
-tailRefusal x lengths t = cond (ltb 4294967295 (sumOf t (rowLengths x lengths))) 16 0
+tailRefusal x lengths t = cond (tailAbove (rowLengths x lengths) t) 16 0
 
 -- entries 14, 13, 17, 16; a key 13; then 21
 unfoldable pub itemRefusal : List ℕ → LogItem → List ℕ → ℕ → List ℕ → ℕ → ℕ

@@ -1,8 +1,7 @@
 -- `rows_reader::read_body` meets its contract: the seal, then what stands before the footer.
 -- Assumes nothing.
 use Rattle.rows_reader.proofs.Reading.{left, same-answer, kept}
-use Rattle.log_batch.proofs.Sealing.{seal-long}
-use Rattle.log_batch.proofs.Sealed.{body-refused, body-sealed}
+use Rattle.log_batch.proofs.Sealing.{seal-long, body-refused, body-sealed}
 use native.Mathlib.Omega.{arith}
 use lib.Seq.{length-take-le}
 use denote.Ref.{now}

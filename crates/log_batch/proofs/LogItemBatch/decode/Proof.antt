@@ -3,8 +3,7 @@
 use mathlib.Core.Path.{sym, ap, _∙_}
 use lib.Seq.{length-take-le}
 use Rattle.log_batch.specs.Table.{tableOf}
-use Rattle.log_batch.proofs.Sealing.{seal-long}
-use Rattle.log_batch.proofs.Sealed.{body-refused, body-sealed}
+use Rattle.log_batch.proofs.Sealing.{seal-long, body-refused, body-sealed}
 use Rattle.log_batch.proofs.Tables.{refused-table}
 use borrow.Author.Needs.{needs}
 use native.Mathlib.Omega.{arith}

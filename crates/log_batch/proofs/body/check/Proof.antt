@@ -4,8 +4,7 @@ use mathlib.Core.Path.{sym, ap, _∙_}
 use denote.Ref.{now}
 use lib.Seq.{length-take-le}
 use Rattle.log_batch.specs.Answers.{checkOf}
-use Rattle.log_batch.proofs.Sealing.{seal-long}
-use Rattle.log_batch.proofs.Sealed.{body-refused, body-sealed}
+use Rattle.log_batch.proofs.Sealing.{seal-long, body-refused, body-sealed}
 use native.Mathlib.Omega.{arith}
 use borrow.Author.Needs.{needs}
 use Rattle.log_batch.proofs.body.check.Statement.{statement}
