@@ -10,7 +10,7 @@ use lib.ListN.{length, length-append}
 use Rattle.log_item.specs.Got.{Got, got, refused, done, bind}
 use Rattle.log_item.specs.Reading.{Read, oneItem}
 use Rattle.log_item.specs.Pieces.{number}
-use Rattle.log_item.specs.Answers.{Counted, passItem, itemPassed}
+use Rattle.log_item.specs.Answers.{Counted, countedItem, passItem}
 use Rattle.refusal.specs.declared.Refusal.{Refusal}
 use Rattle.log_item.specs.declared.Form.{Form}
 use Rattle.log_item.specs.declared.Form.the-variants.{Plain}
@@ -22,8 +22,6 @@ use Rattle.log_batch.specs.Reading.{Answer, accepted, rejected, before, 
 use Rattle.log_batch.specs.declared.PlainForm.the-variants as plain
 use Rattle.log_batch.specs.Body.{readBody}
 use Rattle.log_batch.specs.Seal.{sealedPart}
-use Rattle.log_item.specs.declared.Passed.{Passed}
-use Rattle.log_item.specs.declared.Passed.the-variants as passed
 use Rattle.log_batch.specs.Answers.{checkOf, plainBody}
 use Rattle.log_batch.proofs.Bodies.{parts}
 
@@ -72,15 +70,15 @@ module _ (form : Form) (s : List ℕ) where
       record { few = omega arith; comes = rw all (held-none (items form s count 0 0 0 start)) }
 
   -- what a body holds where i items and one that was gone over stand before k others
-  abbrev heldPast : ℕ → ℕ → Passed → BodyCheck
-  heldPast k i (passed.Done q u m) = heldAfter (i + 1) m (items form s k (i + 1) m u q)
-  heldPast k i (passed.Refused r) = Refused (record { number = r; item = i })
+  abbrev heldPast : ℕ → ℕ → Got (ℕ × ℕ) → BodyCheck
+  heldPast k i (got r q) = heldAfter (i + 1) (r .1) (items form s k (i + 1) (r .1) (r .0) q)
+  heldPast k i (refused r) = Refused (record { number = r; item = i })
 
-  held-past : (k i e t p : ℕ) → heldPast k i (itemPassed (passItem form s e t p)) ≡ heldAfter i e (items form s (suc k) i e t p)
-  unfolding items passItem
+  held-past : (k i e t p : ℕ) → heldPast k i (passItem form s e t p) ≡ heldAfter i e (items form s (suc k) i e t p)
+  unfolding items passItem countedItem
   held-past k i e t p = go (oneItem form s e t p)
     where
-      go : (g : Got Read) → heldPast k i (itemPassed (bind {A = Read} {B = Counted} g (λ r. done (record { item = r .item; total = r .total; used = e + length (r .rows) }))))
+      go : (g : Got Read) → heldPast k i (bind {A = Counted} {B = ℕ × ℕ} (bind {A = Read} {B = Counted} g (λ r. done (record { item = r .item; total = r .total; used = e + length (r .rows) }))) (λ r. done (r .total, r .used)))
           ≡ heldAfter i e (inFront i g (λ r z. items form s k (i + 1) (e + length (r .rows)) (r .total) z))
       go (got r z) = sym (held-before i e (r .item) (r .rows) (items form s k (i + 1) (e + length (r .rows)) (r .total) z))
       go (refused r) = refl
@@ -94,13 +92,13 @@ module _ (form : Form) (s : List ℕ) where
       rest : count - i ≡ suc (count - (i + 1))
       rest = omega arith
 
-      past : {x : Passed} → x ≡ itemPassed (passItem form s used total at) → heldPast (count - (i + 1)) i x ≡ checkOf (items form s count 0 0 0 start)
-      past h = ap (heldPast (count - (i + 1)) i) h ∙ held-past (count - (i + 1)) i used total at ∙ rw (← rest) (l .comes)
+      past : {g : Got (ℕ × ℕ)} → passItem form s used total at ≡ g → heldPast (count - (i + 1)) i g ≡ checkOf (items form s count 0 0 0 start)
+      past h = ap (heldPast (count - (i + 1)) i) (sym h) ∙ held-past (count - (i + 1)) i used total at ∙ rw (← rest) (l .comes)
 
-      pub left-next : {u m q : ℕ} → passed.Done q u m ≡ itemPassed (passItem form s used total at) → ItemsLeft count start (i + 1) q u m
+      pub left-next : {u m q : ℕ} → passItem form s used total at ≡ got (u, m) q → ItemsLeft count start (i + 1) q u m
       left-next h = record { few = omega arith; comes = past h }
 
-      pub left-refused : {r : ℕ} → passed.Refused r ≡ itemPassed (passItem form s used total at) → Refused (record { number = r; item = i }) ≡ checkOf (items form s count 0 0 0 start)
+      pub left-refused : {r : ℕ} → passItem form s used total at ≡ refused r → Refused (record { number = r; item = i }) ≡ checkOf (items form s count 0 0 0 start)
       left-refused h = past h
 
     pub left-end : count ≤ i → Accepted count used total at ≡ checkOf (items form s count 0 0 0 start)

@@ -20,7 +20,7 @@ use Rattle.words.proofs.Words.{length-little}
 use Rattle.crc.specs.Crc.{crcOf}
 use Rattle.log_batch.specs.Seal.{sealedPart, contentLength}
 use Rattle.log_item.specs.Pieces.{byte, number, span}
-use Rattle.log_item.specs.Reading.{command, putAt, keyValue, firstIndex, entryIndexes, content, head, tail, tails, oneItem}
+use Rattle.log_item.specs.Reading.{command, putAt, keyValue, firstIndex, entryCount, entryIndexes, content, head, tail, tails, oneItem}
 use Rattle.log_item.specs.declared.Span.{Span}
 use Rattle.log_item.specs.declared.LogItem.{LogItem}
 use Rattle.log_item.specs.declared.EntryIndex.{EntryIndex}
@@ -169,7 +169,7 @@ module _ (body block : Span) where
 
 -- Document 01's worked examples hold of the definitions, by computation.
 pub table-right : AllRight table
-unfolding readFrom readNumber spell shortest byte number span command putAt keyValue firstIndex entryIndexes content head tail tails oneItem
+unfolding readFrom readNumber spell shortest byte number span command putAt keyValue firstIndex entryCount entryIndexes content head tail tails oneItem
 table-right = (
   (refl, refl),
   (

@@ -18,7 +18,7 @@ use Rattle.log_item.specs.Limits.{RowFits}
 use Rattle.log_item.specs.Spelling.{NumberIn, Spanned, spanned, Contents, no-entries, entries, clean, compact, put, delete, Tails, no-more, next, OneItem, item}
 use Rattle.log_item.specs.Place.{At}
 use Rattle.log_item.specs.Pieces.{span}
-use Rattle.log_item.specs.Reading.{command, putAt, keyValue, firstIndex, entryIndexes, content, head, tail, tails, oneItem}
+use Rattle.log_item.specs.Reading.{command, putAt, keyValue, firstIndex, entryCount, entryIndexes, content, head, tail, tails, oneItem}
 use Rattle.log_item.proofs.Place.{cut, at-inside, complete-byte}
 use Rattle.log_item.proofs.Numbers.{number-some, complete-number}
 
@@ -57,7 +57,7 @@ module _ (form : Form) {s : List ℕ} where
   pub complete-content : (e : ℕ) {c : LogItemContent} {p : ℕ} {x : List ℕ} → Contents (NumberIn form) c p x → {rows : List EntryIndex} {t u : ℕ} {y : List ℕ}
       → Tails (NumberIn form) (entriesOf c .count) (entriesOf c .«first_index») rows t u y → Each RowFits rows → e + length rows ≤ 1024 → {q : ℕ} → At s p q x
       → content form s e (typeOf c) p ≡ got c q
-  unfolding content entryIndexes firstIndex command keyValue putAt
+  unfolding content entryIndexes entryCount firstIndex command keyValue putAt
   complete-content e (no-entries h) g each few f =
       let small : e + 0 ≤ 1024 = omega arith in
       rw (complete-number form h f, le-leb _ _ small)

@@ -1,8 +1,9 @@
 -- No second answer: two results, and two later contents of a lent buffer, that meet one contract are equal.
 -- Assumes nothing.
+use Prim.Native.Nat.{ℕ}
 use mathlib.Core.Path.{_≡_, sym, _∙_, ap}
 use Rattle.one_answer.specs.OneAnswer.{OneAnswer}
-use Rattle.log_item.specs.Answers.{fieldGot, spanGot, Counted, headGot, tailGot, itemGot}
+use Rattle.log_item.specs.Answers.{fieldGot, spanGot, Counted, headGot, tailGot, itemGot, passedGot}
 use Rattle.log_item.specs.declared.Field.{Field}
 use Rattle.log_item.specs.declared.Field.the-variants as field
 use Rattle.log_item.specs.declared.SpanRead.{SpanRead}
@@ -24,6 +25,8 @@ use Rattle.log_item.specs.declared.TailRead.{TailRead}
 use Rattle.log_item.specs.declared.TailRead.the-variants as tail
 use Rattle.log_item.specs.declared.ItemRead.{ItemRead}
 use Rattle.log_item.specs.declared.ItemRead.the-variants as item
+use Rattle.log_item.specs.declared.Passed.{Passed}
+use Rattle.log_item.specs.declared.Passed.the-variants as passed
 use Rattle.log_item.proofs.LogItem.decode.Kinds as decode-kinds
 use Rattle.log_item.proofs.LogItem.decode.Reads as decode-reads
 use Rattle.log_item.proofs.LogItem.pass.Kinds as pass-kinds
@@ -101,11 +104,21 @@ item-same (item.Done x q u n) (item.Refused r) e = cc
 item-same (item.Refused r) (item.Done x q u n) e = cc
 item-same (item.Refused r) (item.Refused x) e = cc
 
+passed-same : (a b : Passed) → passedGot a ≡ passedGot b → a ≡ b
+passed-same (passed.Done q u n) (passed.Done z v m) e =
+    let p : _≡_ {A = ℕ × ℕ} (u, n) (v, m) = cc in
+    let t : u ≡ v = ap (λ (a : ℕ × ℕ). a .0) p in
+    let k : n ≡ m = ap (λ (a : ℕ × ℕ). a .1) p in
+    cc
+passed-same (passed.Done q u n) (passed.Refused r) e = cc
+passed-same (passed.Refused r) (passed.Done q u n) e = cc
+passed-same (passed.Refused r) (passed.Refused x) e = cc
+
 pub decode : OneAnswer 1 decode-kinds.ps decode-kinds.r decode-reads.Post (λ κs x y s t. x ≡ y)
 decode κs a x y s t p q = item-same x y (p ∙ sym q)
 
 pub pass : OneAnswer 1 pass-kinds.ps pass-kinds.r pass-reads.Post (λ κs x y s t. x ≡ y)
-pass κs a x y s t p q = p ∙ sym q
+pass κs a x y s t p q = passed-same x y (p ∙ sym q)
 
 pub decode-head : OneAnswer 1 decode-head-kinds.ps decode-head-kinds.r decode-head-reads.Post (λ κs x y s t. x ≡ y)
 decode-head κs a x y s t p q = head-same x y (p ∙ sym q)

@@ -10,7 +10,7 @@ use lib.Dec.{eqb}
 use Rattle.log_item.specs.Got.{got}
 use Rattle.log_item.specs.Entries.{entriesOf}
 use Rattle.log_item.specs.Pieces.{byte, number}
-use Rattle.log_item.specs.Reading.{command, keyValue, firstIndex, entryIndexes, content, head, tail}
+use Rattle.log_item.specs.Reading.{command, keyValue, firstIndex, entryCount, entryIndexes, content, head, tail}
 use Rattle.log_item.specs.declared.Form.{Form}
 use Rattle.log_item.specs.declared.EntryIndexes.{EntryIndexes}
 use Rattle.log_item.specs.declared.LogItem.{LogItem}
@@ -36,9 +36,17 @@ module _ (form : Form) (s : List ℕ) where
   first-holds e (suc n) p h =
       later (number form s p) λ i q. at-most (i + n) 18446744073709551615 17 _ q λ k. holds (record { few = λ _. h; last = λ _. omega arith })
 
+  count-holds : (e p : ℕ) → Holds (λ n q. e + n ≤ 1024) (entryCount form s e p)
+  unfolding entryCount
+  count-holds e p = later (number form s p) λ n q. at-most (e + n) 1024 14 _ q λ h. holds h
+
+  -- Counted entries are among the first 1,024 of the batch.
+  pub count-known : (e p : ℕ) {n q : ℕ} → entryCount form s e p ≡ got n q → e + n ≤ 1024
+  count-known e p k = of-got (count-holds e p) k
+
   entries-hold : (e p : ℕ) → Holds (λ x q. EntriesFit e x) (entryIndexes form s e p)
   unfolding entryIndexes
-  entries-hold e p = later (number form s p) λ n q. at-most (e + n) 1024 14 _ q λ h. first-holds e n q h
+  entries-hold e p = after (count-holds e p) λ n q h. first-holds e n q h
 
   content-holds : (e b p : ℕ) → Holds (λ c q. EntriesFit e (entriesOf c)) (content form s e b p)
   unfolding content

@@ -8,7 +8,7 @@ use borrow.Author.Tests.{le-leb, lt-leb, ne-eqb}
 use Rattle.log_item.specs.Got.{got, refused}
 use Rattle.log_item.specs.Entries.{entriesOf}
 use Rattle.log_item.specs.Pieces.{byte, number}
-use Rattle.log_item.specs.Reading.{command, keyValue, firstIndex, entryIndexes, content, head, tail}
+use Rattle.log_item.specs.Reading.{command, keyValue, firstIndex, entryCount, entryIndexes, content, head, tail}
 use Rattle.log_item.specs.declared.Form.{Form}
 use Rattle.log_item.specs.declared.Command.{Command}
 use Rattle.log_item.specs.declared.KeyValue.{KeyValue}
@@ -42,18 +42,26 @@ module _ (form : Form) (s : List ℕ) where
   -- ---- a count of entries
 
   module _ (used p : ℕ) where
-    pub entries-refused : {r : ℕ} → number form s p ≡ refused r → refused r ≡ entryIndexes form s used p
-    unfolding entryIndexes
-    entries-refused e = rw e
+    pub count-refused : {r : ℕ} → number form s p ≡ refused r → refused r ≡ entryCount form s used p
+    unfolding entryCount
+    count-refused e = rw e
 
     module _ {n q : ℕ} (e : number form s p ≡ got n q) where
-      pub entries-many : 1024 < used + n → refused 14 ≡ entryIndexes form s used p
-      unfolding entryIndexes
-      entries-many h = rw (e, lt-leb _ _ h)
+      pub count-many : 1024 < used + n → refused 14 ≡ entryCount form s used p
+      unfolding entryCount
+      count-many h = rw (e, lt-leb _ _ h)
 
-      pub entries-first : used + n ≤ 1024 → firstIndex form s n q ≡ entryIndexes form s used p
-      unfolding entryIndexes
-      entries-first h = rw (e, le-leb _ _ h)
+      pub count-done : used + n ≤ 1024 → got n q ≡ entryCount form s used p
+      unfolding entryCount
+      count-done h = rw (e, le-leb _ _ h)
+
+    pub entries-no-count : {r : ℕ} → entryCount form s used p ≡ refused r → refused r ≡ entryIndexes form s used p
+    unfolding entryIndexes
+    entries-no-count e = rw e
+
+    pub entries-first : {n q : ℕ} → entryCount form s used p ≡ got n q → firstIndex form s n q ≡ entryIndexes form s used p
+    unfolding entryIndexes
+    entries-first e = rw e
 
   -- ---- a tail
 

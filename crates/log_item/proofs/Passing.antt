@@ -9,7 +9,7 @@ use lib.ListN.{length}
 use Rattle.log_item.specs.Got.{Got, got, refused, Reading, done, bind}
 use Rattle.log_item.specs.Entries.{entriesOf, tailRow}
 use Rattle.log_item.specs.Reading.{Read, head, tail, tails, oneItem}
-use Rattle.log_item.specs.Answers.{Counted, passItem, passTails}
+use Rattle.log_item.specs.Answers.{Counted, countedItem, passTails}
 use Rattle.log_item.specs.declared.Form.{Form}
 use Rattle.log_item.specs.declared.EntryIndex.{EntryIndex}
 use Rattle.log_item.specs.declared.EntryIndexes.{EntryIndexes}
@@ -103,8 +103,8 @@ module _ (form : Form) (s : List ℕ) where
       by-rows x (refused n) c = let o : _≡_ {A = ℕ} 0 1 = cc in absurd (omega arith)
 
   module _ (used t p : ℕ) where
-    pub item-no-head : {r : ℕ} → head form s used p ≡ refused r → refused r ≡ passItem form s used t p
-    unfolding passItem oneItem
+    pub item-no-head : {r : ℕ} → head form s used p ≡ refused r → refused r ≡ countedItem form s used t p
+    unfolding countedItem oneItem
     item-no-head e = rw e
 
     module _ {x : LogItem} {q : ℕ} (e : head form s used p ≡ got x q) {d : EntryIndexes} (k : d ≡ entriesOf (x .content)) where
@@ -116,17 +116,17 @@ module _ (form : Form) (s : List ℕ) where
       by-rows (refused r) h = refl
 
       -- Its rows, which are as many as it states, are passed by.
-      pub item-rows : passItem form s used t p
+      pub item-rows : countedItem form s used t p
           ≡ bind (passTails form s (d .count) t q) (passing x (used + d .count))
-      unfolding passItem oneItem
+      unfolding countedItem oneItem
       item-rows =
           rw (e, ← k)
           (by-rows (tails form s (d .count) (d .«first_index») t q) (rows-hold (d .count) (d .«first_index») t q)
           ∙ ap (λ g. bind g (passing x (used + d .count))) (total-pass (d .count) (d .«first_index») t q))
 
       pub item-done : {u z : ℕ} → passTails form s (d .count) t q ≡ got u z
-          → got (record { item = x; total = u; used = used + d .count }) z ≡ passItem form s used t p
+          → got (record { item = x; total = u; used = used + d .count }) z ≡ countedItem form s used t p
       item-done f = rw (item-rows, f)
 
-      pub item-no-tails : {r : ℕ} → passTails form s (d .count) t q ≡ refused r → refused r ≡ passItem form s used t p
+      pub item-no-tails : {r : ℕ} → passTails form s (d .count) t q ≡ refused r → refused r ≡ countedItem form s used t p
       item-no-tails f = rw (item-rows, f)

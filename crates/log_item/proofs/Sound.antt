@@ -18,7 +18,7 @@ use Rattle.log_item.specs.Limits.{RowFits}
 use Rattle.log_item.specs.Spelling.{NumberIn, Spanned, spanned, Contents, no-entries, entries, clean, compact, put, delete, Tails, no-more, next, item}
 use Rattle.log_item.specs.Place.{At, Found, Asks, ItemSpelled}
 use Rattle.log_item.specs.Pieces.{span}
-use Rattle.log_item.specs.Reading.{command, putAt, keyValue, firstIndex, entryIndexes, head, tail, tails, oneItem}
+use Rattle.log_item.specs.Reading.{command, putAt, keyValue, firstIndex, entryCount, entryIndexes, head, tail, tails, oneItem}
 use Rattle.log_item.specs.Reading as reading
 use Rattle.log_item.proofs.Holds.{Says, holds, says, after, if-most, is}
 use Rattle.log_item.proofs.Place.{join, at-nothing, sound-byte}
@@ -118,8 +118,10 @@ module _ (form : Form) (s : List ℕ) (asks : Asks form s) where
 
   -- A count and first index that are read are spelled.
   sound-entries : (e p : ℕ) → Says (λ x q. Content form s e 1 p (content.EntryIndexes x) q) (entryIndexes form s e p)
-  unfolding entryIndexes
-  sound-entries e p = after (sound-number form s asks p) λ n a f. if-most (e + n) 1024 _ _ _ λ few. sound-first e n p a f few
+  unfolding entryIndexes entryCount
+  sound-entries e p =
+      after {P = λ n a. Found s (NumberIn form n) p a × (e + n ≤ 1024)} (after (sound-number form s asks p) λ n a f. if-most (e + n) 1024 _ _ _ λ few. holds (f, few))
+      λ n a h. sound-first e n p a (h .0) (h .1)
 
   -- A command that is read is spelled.
   sound-command : (p : ℕ) → Says (λ c q. Found s (Contents (NumberIn form) (content.Command c) p) p q) (command form s p)

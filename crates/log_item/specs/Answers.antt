@@ -49,18 +49,24 @@ itemGot (item.Done x q u e) = got (record { item = x; total = u; used = e }) q
 itemGot (item.Refused r) = refused r
 
 -- an item, and the number of entries after it in the place of its rows
-unfoldable pub passItem : Form → List ℕ → ℕ → ℕ → Reading Counted
-passItem form s e t = do
+unfoldable pub countedItem : Form → List ℕ → ℕ → ℕ → Reading Counted
+countedItem form s e t = do
   r ← oneItem form s e t
   done (record { item = r .item; total = r .total; used = e + length (r .rows) })
+
+-- the total and the number of entries after an item that was gone over
+abbrev pub passedGot : Passed → Got (ℕ × ℕ)
+passedGot (passed.Done q u e) = got (u, e) q
+passedGot (passed.Refused r) = refused r
+
+-- an item with what it is forgotten
+unfoldable pub passItem : Form → List ℕ → ℕ → ℕ → Reading (ℕ × ℕ)
+passItem form s e t = do
+  r ← countedItem form s e t
+  done (r .total, r .used)
 
 -- n tails without their rows: the total after them. The indexes do not matter
 unfoldable pub passTails : Form → List ℕ → ℕ → ℕ → Reading ℕ
 passTails form s n t = do
   (rows, u) ← tails form s n 0 t
   done u
-
--- an item that was gone over: what it is is forgotten
-abbrev pub itemPassed : Got Counted → Passed
-itemPassed (got r q) = passed.Done q (r .total) (r .used)
-itemPassed (refused r) = passed.Refused r

@@ -14,4 +14,3 @@ pub mod Refusing
 pub mod Written
 pub mod Relocated
 pub mod Private
-pub mod PassingPrivate

@@ -17,7 +17,11 @@ use Rattle.log_item.specs.Bytes.{entriesBytes, commandBytes, tailsBytes}
 use Rattle.log_item.specs.Written.{sumOf, tailAbove}
 use Rattle.log_item.specs.declared.TailsSize.{TailsSize}
 use Rattle.log_item.specs.declared.TailsSize.the-variants.{Fine, TooLarge}
-use Rattle.log_item.specs.Got.{Got, got, refused}
+use Rattle.log_item.specs.Got.{Got, got, refused, Reading, done, _>>=_}
+use Rattle.log_item.specs.Entries.{entriesOf}
+use Rattle.log_item.specs.Reading.{entryIndexes, content}
+use Rattle.log_item.specs.Answers.{passTails}
+use Rattle.log_item.specs.declared.Form.{Form}
 use Rattle.log_item.specs.declared.Command.{Command}
 use Rattle.log_item.specs.declared.KeyValue.{KeyValue}
 use Rattle.log_item.specs.declared.EntryIndexes.{EntryIndexes}
@@ -28,7 +32,7 @@ use Rattle.log_item.specs.declared.KeyValueRead.the-variants as keyValue
 use Rattle.log_item.specs.declared.EntryIndexesRead.{EntryIndexesRead}
 use Rattle.log_item.specs.declared.EntryIndexesRead.the-variants as entries
 use Rattle.log_item.specs.declared.ContentRead.{ContentRead}
-use Rattle.log_item.specs.declared.ContentRead.the-variants as content
+use Rattle.log_item.specs.declared.ContentRead.the-variants as contentRead
 
 -- what the readers of contents answer, in the words of the definitions
 abbrev pub commandGot : CommandRead → Got Command
@@ -44,8 +48,27 @@ entriesGot (entries.Done x q) = got x q
 entriesGot (entries.Refused r) = refused r
 
 abbrev pub contentGot : ContentRead → Got LogItemContent
-contentGot (content.Done x q) = got x q
-contentGot (content.Refused r) = refused r
+contentGot (contentRead.Done x q) = got x q
+contentGot (contentRead.Refused r) = refused r
+
+module _ (form : Form) (s : List ℕ) where
+  -- the tails that entries state, with e entries and the total t before them: the total and the number of entries after them
+  abbrev pub passStated : ℕ → ℕ → EntryIndexes → Reading (ℕ × ℕ)
+  passStated e t x = do
+    u ← passTails form s (x .count) t
+    done (u, e + x .count)
+
+  -- entries and their tails
+  unfoldable pub passEntries : ℕ → ℕ → Reading (ℕ × ℕ)
+  passEntries e t = do
+    x ← entryIndexes form s e
+    passStated e t x
+
+  -- a content of type b and its tails
+  unfoldable pub passContent : ℕ → ℕ → ℕ → Reading (ℕ × ℕ)
+  passContent e t b = do
+    c ← content form s e b
+    passStated e t (entriesOf c)
 
 -- bytes fit from a place on
 pub record Room (out : List ℕ) (at : ℕ) (bs : List ℕ) : Type 0 where

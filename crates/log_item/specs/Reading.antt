@@ -56,11 +56,17 @@ module _ (form : Form) (s : List ℕ) where
     leb (i + n) 18446744073709551615 else 17
     done (record { count = suc n; «first_index» = i })
 
-  -- a count of entries, with e before them in the batch, and their first index
-  unfoldable pub entryIndexes : ℕ → Reading EntryIndexes
-  entryIndexes e = do
+  -- a count of entries, with e before them in the batch
+  unfoldable pub entryCount : ℕ → Reading ℕ
+  entryCount e = do
     n ← number form s
     leb (e + n) 1024 else 14
+    done n
+
+  -- the count and the first index
+  unfoldable pub entryIndexes : ℕ → Reading EntryIndexes
+  entryIndexes e = do
+    n ← entryCount e
     firstIndex n
 
   -- the content of an item of type b, up to its tails

@@ -1,7 +1,7 @@
-// An entries item: its first index, and the way over its tails. Its count, and one tail by itself, are read in lib.rt.
+// An entries item: its count, its first index, and the way over its tails. One tail by itself is read in lib.rt.
 ghost use mathlib.Core.Path.{_≡_};
 ghost use Rattle.log_item.specs.Pieces.{number};
-ghost use Rattle.log_item.specs.Reading.{firstIndex, tail};
+ghost use Rattle.log_item.specs.Reading.{entryCount, firstIndex};
 ghost use Rattle.log_item.specs.Private.{entriesGot};
 ghost use Rattle.log_item.specs.Answers.{fieldGot, tailGot, passTails};
 use crate::EntryIndexes;
@@ -11,6 +11,24 @@ use crate::Form;
 use crate::TailRead;
 use crate::piece::read_number;
 use words::wide;
+
+// A count of entries, with `used` before them in the batch.
+pub(crate) fn read_count(buf: &[u8], at: usize, used: usize, form: Form) -> Field
+    ensures { λ r. ⌜ fieldGot r ≡ entryCount form (now (buf .entry)) used at ⌝ }
+{
+    match read_number(buf, at, form) {
+        Field::Done { value, next } => {
+            if 1024 < used {
+                return Field::Refused(refusal::ENTRIES_TOO_MANY);
+            }
+            if ((1024 - used) as u64) < value {
+                return Field::Refused(refusal::ENTRIES_TOO_MANY);
+            }
+            Field::Done { value, next }
+        }
+        Field::Refused(number) => Field::Refused(number),
+    }
+}
 
 // The first index of `count` entries, where there are any.
 pub(crate) fn read_first_index(buf: &[u8], at: usize, count: usize, form: Form) -> EntryIndexesRead
@@ -50,37 +68,25 @@ pub fn skip_tails(buf: &[u8], at: usize, count: usize, before: u32, form: Form) 
     let mut total = before;
     let mut place = at;
     while 0 < left {
-        match tail_at(buf, place, total, form) {
-            TailRead::Done { total: after, next } => {
+        match read_tail(buf, place, form) {
+            Field::Done { value, next } => {
+                if 4294967295 < value {
+                    return TailRead::Refused(refusal::TAIL_TOO_LARGE);
+                }
+                let after = value as u32;
+                if after < total {
+                    return TailRead::Refused(refusal::TAIL_FALLS);
+                }
                 total = after;
                 place = next;
                 left -= 1;
             }
-            TailRead::Refused(number) => {
+            Field::Refused(number) => {
                 return TailRead::Refused(number);
             }
         }
     }
     TailRead::Done { total, next: place }
-}
-
-// The tail at a place, with the total `before` it: what EntryIndexes::decode_tail answers, quicker where many are gone over.
-fn tail_at(buf: &[u8], at: usize, before: u32, form: Form) -> TailRead
-    ensures { λ r. ⌜ tailGot r ≡ tail form (now (buf .entry)) before at ⌝ }
-{
-    match read_tail(buf, at, form) {
-        Field::Done { value, next } => {
-            if 4294967295 < value {
-                return TailRead::Refused(refusal::TAIL_TOO_LARGE);
-            }
-            let total = value as u32;
-            if total < before {
-                return TailRead::Refused(refusal::TAIL_FALLS);
-            }
-            TailRead::Done { total, next }
-        }
-        Field::Refused(number) => TailRead::Refused(number),
-    }
 }
 
 // The number at a place, quicker for two and three bytes, as most tails have.

@@ -22,7 +22,8 @@ ghost use mathlib.Core.Path.{_≡_};
 ghost use Rattle.log_item.specs.Entries.{entriesOf};
 ghost use Rattle.log_item.specs.Reading.{command, entryIndexes, content, head, tail};
 ghost use Rattle.log_item.specs.Private.{commandGot, entriesGot, contentGot};
-ghost use Rattle.log_item.specs.Answers.{headGot, tailGot, itemGot, passItem};
+ghost use Rattle.log_item.specs.Answers.{headGot, tailGot, itemGot, countedItem};
+use entries::read_count;
 use entries::read_first_index;
 
 // Where bytes stand in the body.
@@ -148,12 +149,6 @@ enum TailsSize {
     TooLarge,
 }
 
-// The place after a piece that has no entries; or why it is refused.
-enum Skipped {
-    After(usize),
-    Refused(u32),
-}
-
 enum CommandRead {
     Done { command: Command, next: usize },
     Refused(u32),
@@ -181,7 +176,7 @@ impl LogItem {
     // The item at a place, with `total` bytes of entries and `used` entries before it in the batch. It stores no rows: they can be
     // read again from the head on.
     pub fn decode(buf: &[u8], at: usize, total: u32, used: usize) -> ItemRead
-        ensures { λ r. ⌜ itemGot r ≡ passItem Form.Any (now (buf .entry)) used total at ⌝ }
+        ensures { λ r. ⌜ itemGot r ≡ countedItem Form.Any (now (buf .entry)) used total at ⌝ }
     {
         match LogItem::decode_head(buf, at, used, Form::Any) {
             HeadRead::Done { item, next } => {
@@ -272,23 +267,15 @@ impl EntryIndexes {
     fn decode(buf: &[u8], at: usize, used: usize, form: Form) -> EntryIndexesRead
         ensures { λ r. ⌜ entriesGot r ≡ entryIndexes form (now (buf .entry)) used at ⌝ }
     {
-        match read_number(buf, at, form) {
-            Field::Done { value, next } => {
-                if 1024 < used {
-                    return EntryIndexesRead::Refused(refusal::ENTRIES_TOO_MANY);
-                }
-                if ((1024 - used) as u64) < value {
-                    return EntryIndexesRead::Refused(refusal::ENTRIES_TOO_MANY);
-                }
-                read_first_index(buf, next, value as usize, form)
-            }
+        match read_count(buf, at, used, form) {
+            Field::Done { value, next } => read_first_index(buf, next, value as usize, form),
             Field::Refused(number) => EntryIndexesRead::Refused(number),
         }
     }
 }
 
 impl Command {
-    fn decode(buf: &[u8], at: usize, form: Form) -> CommandRead
+    pub(crate) fn decode(buf: &[u8], at: usize, form: Form) -> CommandRead
         ensures { λ r. ⌜ commandGot r ≡ command form (now (buf .entry)) at ⌝ }
     {
         match read_byte(buf, at) {

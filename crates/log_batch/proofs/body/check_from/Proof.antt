@@ -1,7 +1,8 @@
 -- `log_batch::body::check_from` meets its contract. The loop's invariant, `ItemsLeft`: what is still to be read comes to what the whole comes to.
 -- Assumes nothing.
 use Prim.Native.Nat.{_-_}
-use mathlib.Core.Path.{sym, _∙_}
+use Rattle.log_item.specs.Answers.{passedGot}
+use Rattle.log_item.proofs.Smallest.{learnt}
 use Rattle.log_batch.proofs.Checking.{ItemsLeft, left-start, left-next, left-refused, left-end}
 use borrow.Author.Needs.{needs}
 use Rattle.log_batch.proofs.body.check_from.Statement.{statement}
@@ -29,13 +30,13 @@ loop-less : tie.Need-loop-less Inv-loop μ-loop
 loop-less c = search needs
 
 loop-again : tie.Need-loop-again Inv-loop μ-loop
-loop-again c = left-next _ _ (c .before .before .before .before .before .loop .inv) (c .before .before .before .before .loop-test .taken) (sym (c .before .next .given .1) ∙ c .before .before .before .pass .ensures)
+loop-again c = left-next _ _ (c .before .before .before .before .before .loop .inv) (c .before .before .before .before .loop-test .taken) (learnt passedGot (c .before .before .before .pass .ensures) (c .before .next .given .1))
 
 enum-known-number : tie.Need-enum-known-number Inv-loop μ-loop
 enum-known-number c = search needs
 
 returns : tie.Need-returns Inv-loop μ-loop
-returns c = left-refused _ _ (c .before .before .before .before .before .loop .inv) (c .before .before .before .before .loop-test .taken) (sym (c .before .number .given .1) ∙ c .before .before .before .pass .ensures)
+returns c = left-refused _ _ (c .before .before .before .before .before .loop .inv) (c .before .before .before .before .loop-test .taken) (learnt passedGot (c .before .before .before .pass .ensures) (c .before .number .given .1))
 
 returns-2 : tie.Need-returns-2 Inv-loop μ-loop
 returns-2 c = left-end _ _ (c .before .loop .inv) (c .loop-test .left)
