@@ -1,0 +1,21 @@
+-- `line::front` meets its contract.
+-- Assumes nothing.
+use native.Mathlib.Omega.{arith}
+use mathlib.Core.Path.{sym}
+use denote.Ref.{now}
+use lib.Seq.{length-take-le, take-all}
+use borrow.Author.Needs.{needs}
+use Rattle.line.proofs.front.Statement.{statement}
+use Rattle.line.proofs.front.Tie as tie
+
+slice-aggregate-result : tie.Need-slice-aggregate-result
+slice-aggregate-result c = sym (length-take-le _ _ (omega arith))
+
+returns : tie.Need-returns
+returns c = search needs
+
+returns-2 : tie.Need-returns-2
+returns-2 c = let a = c .before .args in sym (take-all (a .n) (now (a .text)) (omega arith))
+
+pub front-spec : {M : Type 1} → statement M
+front-spec = tie.close (tie.spec slice-aggregate-result returns returns-2)
