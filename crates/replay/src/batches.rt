@@ -13,8 +13,8 @@ use pipe_log::LogQueue;
 // header NAME BYTES = OFFSET LENGTH TYPE
 pub(crate) fn header(line: &[u8]) -> bool {
     let mut buf = [0u8; 32];
-    let n = input::bytes(line, 2, &mut buf);
-    match LogBatch::decode_header(input::front(&buf, n)) {
+    let n = line::bytes(line, 2, &mut buf);
+    match LogBatch::decode_header(line::front(&buf, n)) {
         HeaderRead::Done { batch } => frame(line, batch),
         HeaderRead::Refused(number) => input::is_refused(line, 4, number),
     }
@@ -33,19 +33,19 @@ fn frame(line: &[u8], batch: LogBatch) -> bool {
 pub(crate) fn written(line: &[u8]) -> bool {
     let mut buf = [0u8; 512];
     let mut content = [0u8; 512];
-    let m = input::bytes(line, 3, &mut content);
-    let n = input::bytes(line, 4, &mut buf);
-    let bytes = input::front(&buf, n);
+    let m = line::bytes(line, 3, &mut content);
+    let n = line::bytes(line, 4, &mut buf);
+    let bytes = line::front(&buf, n);
     let table = log_batch::read_items(bytes);
     let why = table.refusal;
     if why.number != refusal::NONE {
         return false;
     }
-    encoded(line, table, bytes, input::front(&content, m))
+    encoded(line, table, bytes, line::front(&content, m))
 }
 
 fn encoded(line: &[u8], table: LogItemBatch, store: &[u8], content: &[u8]) -> bool {
-    if input::kind(line) == b'w' {
+    if line::kind(line) == b'w' {
         checked(line, table, store, content)
     } else {
         unchecked(line, table, store, content)
@@ -54,27 +54,27 @@ fn encoded(line: &[u8], table: LogItemBatch, store: &[u8], content: &[u8]) -> bo
 
 fn checked(line: &[u8], table: LogItemBatch, store: &[u8], content: &[u8]) -> bool {
     let mut out = [0u8; 1024];
-    let r = LogBatch::encode(table, store, content, input::short(line, 2), &mut out);
+    let r = LogBatch::encode(table, store, content, line::short(line, 2), &mut out);
     if r.number != refusal::NONE {
         return input::is_refused(line, 6, r.number);
     }
-    input::is_bytes(line, 6, input::front(&out, r.length))
+    input::is_bytes(line, 6, line::front(&out, r.length))
 }
 
 fn unchecked(line: &[u8], table: LogItemBatch, store: &[u8], content: &[u8]) -> bool {
     let mut out = [0u8; 1024];
-    let r = LogBatch::encode_unchecked(table, store, content, input::short(line, 2), &mut out);
+    let r = LogBatch::encode_unchecked(table, store, content, line::short(line, 2), &mut out);
     if r.number != refusal::NONE {
         return input::is_refused(line, 6, r.number);
     }
-    input::is_bytes(line, 6, input::front(&out, r.length))
+    input::is_bytes(line, 6, line::front(&out, r.length))
 }
 
 // view NAME LENGTH BLOCK = CONTENT
 pub(crate) fn view(line: &[u8]) -> bool {
     let mut buf = [0u8; 512];
-    let n = input::bytes(line, 3, &mut buf);
-    let length = input::number(line, 2);
+    let n = line::bytes(line, 3, &mut buf);
+    let length = line::number(line, 2);
     let row = Location {
         queue: LogQueue::Append,
         seq: 1,
@@ -83,7 +83,7 @@ pub(crate) fn view(line: &[u8]) -> bool {
         entry_offset: 0,
         entry_len: content_len(length),
     };
-    content(line, row, input::front(&buf, n), b"")
+    content(line, row, line::front(&buf, n), b"")
 }
 
 fn content_len(length: u64) -> u32 {
@@ -106,8 +106,8 @@ fn content<'a>(line: &[u8], row: Location, append: &'a [u8], rewrite: &'a [u8]) 
 // status NAME BYTES = GROUP STATUS, or none
 pub(crate) fn status(line: &[u8]) -> bool {
     let mut buf = [0u8; 64];
-    let n = input::bytes(line, 2, &mut buf);
-    let bytes = input::front(&buf, n);
+    let n = line::bytes(line, 2, &mut buf);
+    let bytes = line::front(&buf, n);
     match LogItem::decode(bytes, 0, 0, 0) {
         ItemRead::Done {
             item,

@@ -5,8 +5,8 @@ use codec::NumberRead;
 // read NAME BYTES = VALUE NEXT, or eof, or overflow
 pub(crate) fn read(line: &[u8]) -> bool {
     let mut buf = [0u8; 32];
-    let n = input::bytes(line, 2, &mut buf);
-    match codec::decode_var_u64(input::front(&buf, n), 0) {
+    let n = line::bytes(line, 2, &mut buf);
+    match codec::decode_var_u64(line::front(&buf, n), 0) {
         NumberRead::Done { value, next } => {
             if input::is_number(line, 4, value) {
                 input::is_number(line, 5, next as u64)
@@ -22,15 +22,15 @@ pub(crate) fn read(line: &[u8]) -> bool {
 // number NAME N = BYTES
 pub(crate) fn written(line: &[u8]) -> bool {
     let mut buf = [0u8; 10];
-    let n = input::number(line, 2);
+    let n = line::number(line, 2);
     let len = codec::var_u64_len(n);
     codec::encode_var_u64(n, &mut buf, 0);
-    input::is_bytes(line, 4, input::front(&buf, len))
+    input::is_bytes(line, 4, line::front(&buf, len))
 }
 
 // crc NAME BYTES = SUM
 pub(crate) fn checksum(line: &[u8]) -> bool {
     let mut buf = [0u8; 512];
-    let n = input::bytes(line, 2, &mut buf);
-    input::is_number(line, 4, crc::crc32(input::front(&buf, n)) as u64)
+    let n = line::bytes(line, 2, &mut buf);
+    input::is_number(line, 4, crc::crc32(line::front(&buf, n)) as u64)
 }
