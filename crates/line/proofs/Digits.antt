@@ -1,7 +1,7 @@
 -- What digits spell: a digit by its ranges, a number that is one digit longer, and the byte at a place.
 -- Assumes nothing.
 use Prim.Native.Nat.{ℕ, zero, suc, _+_, _-_, _*_, _/_, _%_, _^_, _≤_, _<_, min, zero-le}
-use mathlib.Core.Path.{_≡_, refl, sym, ap, _∙_}
+use mathlib.Core.Path.{_≡_, refl, sym, _∙_}
 use mathlib.Core.Bool.{Bool, true, false, cond, _&&_}
 use mathlib.Core.List.{List, [], _∷_, _++_}
 use native.Mathlib.Omega.{arith}
@@ -55,6 +55,9 @@ module _ (b : ℕ) where
       go false q true true f h = omega (arith, leb-true b 102 h)
       go false q true false f h = zero-le
       go false q false s f h = zero-le
+
+pub digit-bound : (b : ℕ) {d : ℕ} → d ≡ digitOf b → d ≤ 15
+digit-bound b e = omega (arith, digit-small b)
 
 -- ---- a number
 

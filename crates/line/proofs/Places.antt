@@ -1,26 +1,16 @@
 -- Places of a text: where a byte stands first, the part between two places, and what stands from a word on; the laws that the code goes by.
 -- Assumes nothing.
 use Prim.Native.Nat.{ℕ, zero, suc, _+_, _-_, _≤_, _<_, min, zero-le}
-use mathlib.Core.Path.{_≡_, refl, sym, ap, _∙_}
+use mathlib.Core.Path.{_≡_, refl, sym, _∙_}
 use mathlib.Core.Bool.{Bool, true, false}
 use mathlib.Core.List.{List, [], _∷_}
 use native.Mathlib.Omega.{arith}
-use native.Mathlib.Numerals.{add-one}
-use lib.Dec.{leb, eqb}
+use lib.Dec.{leb}
 use lib.ListN.{length, getD, take, drop, length-drop, drop-of-length-le}
 use lib.Seq.{take-all, take-nil, take-length, drop-drop}
 use borrow.Author.Tests.{leb-true, leb-false}
-use Rattle.bytes.specs.Bytes.{indexAfter, indexOf, slice}
+use Rattle.bytes.specs.Bytes.{indexOf, slice}
 use Rattle.line.specs.Word.{space, wordsFrom, wordOf}
-
-pub index-within : (b : ℕ) (s : List ℕ) → indexOf b s ≤ length s
-unfolding indexOf indexAfter
-index-within b [] = zero-le
-index-within b (x ∷ s) = go (eqb x b) (index-within b s)
-  where
-    go : (t : Bool) → indexOf b s ≤ length s → indexAfter t (indexOf b s) ≤ suc (length s)
-    go true h = zero-le
-    go false h = omega arith
 
 -- ---- the first of a byte
 
@@ -55,46 +45,49 @@ module _ (s : List ℕ) (start end : ℕ) where
           let long : length (drop start s) ≡ length s - start = length-drop start s in
           take-all (to - start) (drop start s) (omega arith) ∙ sym (take-all (end - start) (drop start s) (omega arith))
 
+pub front-part : (s : List ℕ) (n : ℕ) → take (n - 0) (drop 0 s) ≡ take n s
+front-part s n = let all : n - 0 ≡ n = omega arith in rw all
+
 -- ---- words
 
--- what stands from word k on stands from a place on
+pub none-from : (k : ℕ) → wordsFrom [] k ≡ []
+unfolding wordsFrom
+none-from zero = refl
+none-from (suc k) = none-from k
+
+-- what the loop holds: what stands from word k on is what stands from word `left` on, from a place on
 pub record From (line : List ℕ) (k at left : ℕ) : Type 0 where
   pub within : at ≤ length line
-  pub same : wordsFrom left (drop at line) ≡ wordsFrom k line
-
-module _ {line : List ℕ} {k at left next : ℕ} (w : From line k at left) (more : 0 < left) (found : next ≡ at + indexOf space (drop at line)) where
-  -- the words behind the next space, in the line
-  behind : wordsFrom (left - 1) (drop (at + suc (indexOf space (drop at line))) line) ≡ wordsFrom k line
-  unfolding wordsFrom
-  behind = rw drop-drop at (go left more (w .same))
-    where
-      go : (n : ℕ) → 0 < n → wordsFrom n (drop at line) ≡ wordsFrom k line
-          → wordsFrom (n - 1) (drop (suc (indexOf space (drop at line))) (drop at line)) ≡ wordsFrom k line
-      go zero h e = absurd (omega arith)
-      go (suc n) h e = let one : suc n - 1 ≡ n = omega arith in rw one e
-
-  pub word-passed : next < length line → From line k (next + 1) (left - 1)
-  word-passed h =
-      let place : at + suc (indexOf space (drop at line)) ≡ next + 1 = omega arith in
-      record { within = omega arith; same = rw place at behind }
-
-  pub last-passed : length line ≤ next → From line k next (left - 1)
-  last-passed h =
-      let past : length line ≤ at + suc (indexOf space (drop at line)) = omega arith in
-      record {
-        within = omega (arith, index-within space (drop at line), length-drop at line, w .within);
-        same = rw (drop-of-length-le line h) (rw (drop-of-length-le line past) at behind);
-      }
+  pub same : wordsFrom (drop at line) left ≡ wordsFrom line k
 
 pub from-start : (line : List ℕ) (k : ℕ) → From line k 0 k
 from-start line k = record { within = zero-le; same = refl }
 
-pub from-end : {line : List ℕ} {k at left : ℕ} → From line k at left → left ≡ 0 → take (length line - at) (drop at line) ≡ wordsFrom k line
+pub from-end : {line : List ℕ} {k at left : ℕ} → From line k at left → left ≡ 0 → take (length line - at) (drop at line) ≡ wordsFrom line k
 unfolding wordsFrom
 from-end {line} {k} {at} {left} w e =
     take-all (length line - at) (drop at line) (omega (arith, length-drop at line)) ∙ rw e at (w .same)
 
-pub word-front : (line : List ℕ) (k : ℕ) (words : List ℕ) (n : ℕ) → words ≡ wordsFrom k line → n ≡ 0 + indexOf space (drop 0 words) → take n words ≡ wordOf line k
+module _ {line : List ℕ} {k at left next : ℕ} (w : From line k at left) (more : 0 < left) (found : next ≡ at + indexOf space (drop at line)) where
+  -- the words behind the next space
+  behind : wordsFrom (drop (next + 1) line) (left - 1) ≡ wordsFrom line k
+  unfolding wordsFrom
+  behind = let place : at + suc (indexOf space (drop at line)) ≡ next + 1 = omega arith in rw (drop-drop, place) at (go left more (w .same))
+    where
+      go : (n : ℕ) → 0 < n → wordsFrom (drop at line) n ≡ wordsFrom line k
+          → wordsFrom (drop (suc (indexOf space (drop at line))) (drop at line)) (n - 1) ≡ wordsFrom line k
+      go zero h e = absurd (omega arith)
+      go (suc n) h e = let one : suc n - 1 ≡ n = omega arith in rw one e
+
+  pub word-passed : next < length line → From line k (next + 1) (left - 1)
+  word-passed h = record { within = omega arith; same = behind }
+
+  pub none-left : length line ≤ next → [] ≡ wordsFrom line k
+  none-left h =
+      let past : length line ≤ next + 1 = omega arith in
+      sym (none-from (left - 1)) ∙ rw (drop-of-length-le line past) at behind
+
+pub word-front : (line : List ℕ) (k : ℕ) (words : List ℕ) (n : ℕ) → words ≡ wordsFrom line k → n ≡ 0 + indexOf space (drop 0 words) → take n words ≡ wordOf line k
 unfolding wordOf
 word-front line k words n e f = let g : n ≡ indexOf space words = omega arith in rw (g, e)
 

@@ -7,7 +7,7 @@ ghost use mathlib.Core.List.{_++_};
 ghost use Prim.Native.Nat.{_+_, _-_, _*_, _%_, _^_, min};
 ghost use lib.ListN.{length, getD, take, drop};
 ghost use Rattle.bytes.specs.Bytes.{indexOf};
-ghost use Rattle.line.specs.Word.{wordsFrom, wordOf};
+ghost use Rattle.line.specs.Word.{space, wordsFrom, wordOf};
 ghost use Rattle.line.specs.Hex.{digitOf, numberOf, bytesOf};
 
 // The place of the first b from a place on, or the length where there is none; a place past the end is answered as it is.
@@ -35,25 +35,27 @@ pub fn part(text: &[u8], start: usize, end: usize) -> &[u8]
 pub fn front(text: &[u8], n: usize) -> &[u8]
     ensures { λ r. ⌜ now r ≡ take n (now (text .entry)) ⌝ }
 {
-    if n <= text.len() { &text[..n] } else { text }
+    part(text, 0, n)
 }
 
-// What stands from a word on.
+// What stands from a word on; nothing where there are fewer words.
 pub fn after(line: &[u8], k: usize) -> &[u8]
-    ensures { λ r. ⌜ now r ≡ wordsFrom k (now (line .entry)) ⌝ }
+    ensures { λ r. ⌜ now r ≡ wordsFrom (now (line .entry)) k ⌝ }
 {
     let mut at = 0;
     let mut left = k;
     while 0 < left {
         at = find(line, at, b' ');
-        if at < line.len() {
-            at += 1;
+        if line.len() <= at {
+            return &line[..0];
         }
+        at += 1;
         left -= 1;
     }
     &line[at..]
 }
 
+// A word by its number.
 pub fn word(line: &[u8], k: usize) -> &[u8]
     ensures { λ r. ⌜ now r ≡ wordOf (now (line .entry)) k ⌝ }
 {
@@ -63,7 +65,7 @@ pub fn word(line: &[u8], k: usize) -> &[u8]
 
 // The first letter, by which a kind is told; a space where there is none.
 pub fn kind(line: &[u8]) -> u8
-    ensures { λ r. ⌜ r ≡ getD (now (line .entry)) 0 32 ⌝ }
+    ensures { λ r. ⌜ r ≡ getD (now (line .entry)) 0 space ⌝ }
 {
     if 0 < line.len() { line[0] } else { b' ' }
 }

@@ -90,7 +90,7 @@ fn content_len(length: u64) -> u32 {
     if length < 4 {
         return 0;
     }
-    ((length - 4) % 4_294_967_296) as u32
+    line::low(length - 4)
 }
 
 fn content<'a>(line: &[u8], row: Location, append: &'a [u8], rewrite: &'a [u8]) -> bool {

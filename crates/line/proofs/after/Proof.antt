@@ -1,8 +1,7 @@
--- `line::after` meets its contract. The loop's invariant, `From`: what stands from a place on is what is left to pass.
+-- `line::after` meets its contract. The loop's invariant, `From`: what stands from word k on stands from a place on, behind so many words.
 -- Assumes nothing.
 use native.Mathlib.Omega.{arith}
-use mathlib.Core.Logic.{⊎-elim}
-use Rattle.line.proofs.Places.{From, from-start, from-end, word-passed, last-passed}
+use Rattle.line.proofs.Places.{From, from-start, from-end, word-passed, none-left}
 use borrow.Author.Needs.{needs}
 use Rattle.line.proofs.after.Statement.{statement}
 use Rattle.line.proofs.after.Tie as tie
@@ -19,6 +18,12 @@ loop-holds c = from-start _ _
 find-requires : tie.Need-find-requires Inv-loop μ-loop
 find-requires c κs = search needs
 
+slice-aggregate-result : tie.Need-slice-aggregate-result Inv-loop μ-loop
+slice-aggregate-result c = search needs
+
+returns : tie.Need-returns Inv-loop μ-loop
+returns c = none-left (c .before .before .before .before .loop .inv) (c .before .before .before .loop-test .taken) (c .before .before .find .ensures) (c .before .if1 .taken)
+
 add-at : tie.Need-add-at Inv-loop μ-loop
 add-at c = search needs
 
@@ -29,7 +34,7 @@ loop-less : tie.Need-loop-less Inv-loop μ-loop
 loop-less c = search needs
 
 loop-again : tie.Need-loop-again Inv-loop μ-loop
-loop-again c = let l = c .before .before .before .loop .inv in let t = c .before .before .loop-test .taken in let f = c .before .find .ensures in ⊎-elim (λ w. rw (w .1) (word-passed l t f (w .0 .taken))) (λ w. rw (w .1) (last-passed l t f (w .0 .left))) (c .if1 .came)
+loop-again c = word-passed (c .before .before .before .loop .inv) (c .before .before .loop-test .taken) (c .before .find .ensures) (c .if1 .left)
 
 sub-result : tie.Need-sub-result Inv-loop μ-loop
 sub-result c = search needs
@@ -40,8 +45,8 @@ part-result-start c = search needs
 part-result-end : tie.Need-part-result-end Inv-loop μ-loop
 part-result-end c = search needs
 
-returns : tie.Need-returns Inv-loop μ-loop
-returns c = from-end (c .before .before .loop .inv) (omega arith)
+returns-2 : tie.Need-returns-2 Inv-loop μ-loop
+returns-2 c = from-end (c .before .before .loop .inv) (omega arith)
 
 pub after-spec : {M : Type 1} → statement M
 after-spec =
@@ -51,6 +56,8 @@ after-spec =
     μ-loop
     loop-holds
     find-requires
+    slice-aggregate-result
+    returns
     add-at
     sub-left
     loop-less
@@ -58,4 +65,4 @@ after-spec =
     sub-result
     part-result-start
     part-result-end
-    returns)
+    returns-2)

@@ -1,21 +1,17 @@
 -- `line::front` meets its contract.
 -- Assumes nothing.
-use native.Mathlib.Omega.{arith}
-use mathlib.Core.Path.{sym}
+use mathlib.Core.Path.{_∙_}
 use denote.Ref.{now}
-use lib.Seq.{length-take-le, take-all}
+use Rattle.line.proofs.Places.{front-part}
 use borrow.Author.Needs.{needs}
 use Rattle.line.proofs.front.Statement.{statement}
 use Rattle.line.proofs.front.Tie as tie
 
-slice-aggregate-result : tie.Need-slice-aggregate-result
-slice-aggregate-result c = sym (length-take-le _ _ (omega arith))
+part-requires : tie.Need-part-requires
+part-requires c κs = search needs
 
 returns : tie.Need-returns
-returns c = search needs
-
-returns-2 : tie.Need-returns-2
-returns-2 c = let a = c .before .args in sym (take-all (a .n) (now (a .text)) (omega arith))
+returns c = let a = c .before .before .args in c .part .ensures ∙ front-part (now (a .text)) (a .n)
 
 pub front-spec : {M : Type 1} → statement M
-front-spec = tie.close (tie.spec slice-aggregate-result returns returns-2)
+front-spec = tie.close (tie.spec part-requires returns)

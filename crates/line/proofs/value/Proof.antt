@@ -2,10 +2,9 @@
 -- Assumes nothing.
 use native.Mathlib.Omega.{arith}
 use Prim.Native.Nat.{_-_}
-use denote.Ref.{now}
-use lib.ListN.{length, getD}
+use lib.ListN.{length}
 use mathlib.Core.Path.{_∙_}
-use Rattle.line.proofs.Digits.{Spelt, spelt-start, spelt-more, spelt-end, digit-small}
+use Rattle.line.proofs.Digits.{Spelt, spelt-start, spelt-more, spelt-end, digit-bound}
 use borrow.Author.Needs.{needs}
 use Rattle.line.proofs.value.Statement.{statement}
 use Rattle.line.proofs.value.Tie as tie
@@ -29,7 +28,7 @@ wide-requires : tie.Need-wide-requires Inv-loop μ-loop
 wide-requires c κs = search needs
 
 add-n : tie.Need-add-n Inv-loop μ-loop
-add-n c = omega (arith, digit-small (getD (now (c .before .before .before .before .before .before .args .digits)) (c .before .before .before .before .loop .i) 0))
+add-n c = let small = digit-bound _ (c .wide .ensures ∙ c .before .digit .ensures) in omega arith
 
 add-i : tie.Need-add-i Inv-loop μ-loop
 add-i c = search needs
