@@ -45,8 +45,8 @@ module _ (s : List ℕ) (start end : ℕ) where
           let long : length (drop start s) ≡ length s - start = length-drop start s in
           take-all (to - start) (drop start s) (omega arith) ∙ sym (take-all (end - start) (drop start s) (omega arith))
 
-pub front-part : (s : List ℕ) (n : ℕ) → take (n - 0) (drop 0 s) ≡ take n s
-front-part s n = let all : n - 0 ≡ n = omega arith in rw all
+pub front-part : (s : List ℕ) (n : ℕ) {r : List ℕ} → r ≡ take (n - 0) (drop 0 s) → r ≡ take n s
+front-part s n e = let all : n - 0 ≡ n = omega arith in rw all at e
 
 -- ---- words
 
