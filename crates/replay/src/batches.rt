@@ -1,5 +1,5 @@
 // Headers, whole batches written, blocks, and status marks.
-use crate::input;
+use crate::answer;
 use log_batch::AtomicGroupStatus;
 use log_batch::HeaderRead;
 use log_batch::LogBatch;
@@ -16,14 +16,14 @@ pub(crate) fn header(line: &[u8]) -> bool {
     let n = line::bytes(line, 2, &mut buf);
     match LogBatch::decode_header(line::front(&buf, n)) {
         HeaderRead::Done { batch } => frame(line, batch),
-        HeaderRead::Refused(number) => input::is_refused(line, 4, number),
+        HeaderRead::Refused(number) => answer::is_refused(line, 4, number),
     }
 }
 
 fn frame(line: &[u8], batch: LogBatch) -> bool {
-    if input::is_number(line, 4, batch.offset as u64) {
-        if input::is_number(line, 5, batch.len as u64) {
-            return input::is_number(line, 6, batch.compression as u64);
+    if answer::is_number(line, 4, batch.offset as u64) {
+        if answer::is_number(line, 5, batch.len as u64) {
+            return answer::is_number(line, 6, batch.compression as u64);
         }
     }
     false
@@ -56,18 +56,18 @@ fn checked(line: &[u8], table: LogItemBatch, store: &[u8], content: &[u8]) -> bo
     let mut out = [0u8; 1024];
     let r = LogBatch::encode(table, store, content, line::short(line, 2), &mut out);
     if r.number != refusal::NONE {
-        return input::is_refused(line, 6, r.number);
+        return answer::is_refused(line, 6, r.number);
     }
-    input::is_bytes(line, 6, line::front(&out, r.length))
+    answer::is_bytes(line, 6, line::front(&out, r.length))
 }
 
 fn unchecked(line: &[u8], table: LogItemBatch, store: &[u8], content: &[u8]) -> bool {
     let mut out = [0u8; 1024];
     let r = LogBatch::encode_unchecked(table, store, content, line::short(line, 2), &mut out);
     if r.number != refusal::NONE {
-        return input::is_refused(line, 6, r.number);
+        return answer::is_refused(line, 6, r.number);
     }
-    input::is_bytes(line, 6, line::front(&out, r.length))
+    answer::is_bytes(line, 6, line::front(&out, r.length))
 }
 
 // view NAME LENGTH BLOCK = CONTENT
@@ -97,9 +97,9 @@ fn content<'a>(line: &[u8], row: Location, append: &'a [u8], rewrite: &'a [u8]) 
     let mut number: u32 = 255;
     let bytes = log_batch::entry_view(row, append, rewrite, &mut number);
     if number == refusal::NONE {
-        input::is_bytes(line, 5, bytes)
+        answer::is_bytes(line, 5, bytes)
     } else {
-        input::is_refused(line, 5, number)
+        answer::is_refused(line, 5, number)
     }
 }
 
@@ -122,13 +122,13 @@ pub(crate) fn status(line: &[u8]) -> bool {
 fn marked(line: &[u8], got: StatusRead) -> bool {
     match got {
         StatusRead::Mark { id, status } => {
-            if input::is_number(line, 4, id) {
-                input::is_number(line, 5, status_number(status))
+            if answer::is_number(line, 4, id) {
+                answer::is_number(line, 5, status_number(status))
             } else {
                 false
             }
         }
-        StatusRead::NoMark => input::is_word(line, 4, b"none"),
+        StatusRead::NoMark => answer::is_word(line, 4, b"none"),
         StatusRead::Refused(_) => false,
     }
 }

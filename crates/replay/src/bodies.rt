@@ -1,5 +1,5 @@
 // Single items, bodies read into a table, and bodies written from one.
-use crate::input;
+use crate::answer;
 use crate::items;
 use codec::Wrote;
 use log_batch::LogItemBatch;
@@ -29,7 +29,7 @@ pub(crate) fn one(line: &[u8]) -> bool {
             let c = items::head(line, b, item, bytes);
             0 < one_tails(line, c, bytes, total)
         }
-        ItemRead::Refused(number) => input::is_refused(line, 5, number),
+        ItemRead::Refused(number) => answer::is_refused(line, 5, number),
     }
 }
 
@@ -104,7 +104,7 @@ fn seal(line: &[u8], out: &mut [u8], n: usize, signature: u32) -> usize {
 fn table_agrees(line: &[u8], table: LogItemBatch, bytes: &[u8]) -> bool {
     let why = table.refusal;
     if why.number != refusal::NONE {
-        return input::is_refused(line, 5, why.number);
+        return answer::is_refused(line, 5, why.number);
     }
     let k = items::number(line, 5, table.item_count as u64);
     let item_rows = table.items;
@@ -187,7 +187,7 @@ pub(crate) fn written(line: &[u8]) -> bool {
     }
     let r = LogItemBatch::encode_unchecked(table, bytes, line::short(line, 2), &mut out);
     if r.number != refusal::NONE {
-        return input::is_refused(line, 5, r.number);
+        return answer::is_refused(line, 5, r.number);
     }
-    input::is_bytes(line, 5, line::front(&out, r.length))
+    answer::is_bytes(line, 5, line::front(&out, r.length))
 }

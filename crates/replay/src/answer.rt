@@ -1,15 +1,4 @@
-// Whether a word of a line is a given one, a number, a text or bytes in hex, and whether the answer is a refusal.
-
-// The bytes of a span, or none where it lies outside.
-pub(crate) fn span(bytes: &[u8], at: usize, len: usize) -> &[u8] {
-    if bytes.len() < at {
-        return &bytes[..0];
-    }
-    if bytes.len() - at < len {
-        return &bytes[..0];
-    }
-    &bytes[at..at + len]
-}
+// Whether the words of the Rust's answer are given ones: a number, a text, bytes in hex, or a refusal.
 
 pub(crate) fn is_number(line: &[u8], k: usize, n: u64) -> bool {
     if line::word(line, k).len() == 0 {
