@@ -1,5 +1,5 @@
 // Headers, whole batches written, blocks, and status marks.
-use crate::input;
+use crate::answer;
 use log_batch::AtomicGroupStatus;
 use log_batch::HeaderRead;
 use log_batch::LogBatch;
@@ -13,17 +13,17 @@ use pipe_log::LogQueue;
 // header NAME BYTES = OFFSET LENGTH TYPE
 pub(crate) fn header(line: &[u8]) -> bool {
     let mut buf = [0u8; 32];
-    let n = input::bytes(line, 2, &mut buf);
-    match LogBatch::decode_header(input::front(&buf, n)) {
+    let n = line::bytes(line, 2, &mut buf);
+    match LogBatch::decode_header(line::front(&buf, n)) {
         HeaderRead::Done { batch } => frame(line, batch),
-        HeaderRead::Refused(number) => input::is_refused(line, 4, number),
+        HeaderRead::Refused(number) => answer::is_refused(line, 4, number),
     }
 }
 
 fn frame(line: &[u8], batch: LogBatch) -> bool {
-    if input::is_number(line, 4, batch.offset as u64) {
-        if input::is_number(line, 5, batch.len as u64) {
-            return input::is_number(line, 6, batch.compression as u64);
+    if answer::is_number(line, 4, batch.offset as u64) {
+        if answer::is_number(line, 5, batch.len as u64) {
+            return answer::is_number(line, 6, batch.compression as u64);
         }
     }
     false
@@ -33,19 +33,19 @@ fn frame(line: &[u8], batch: LogBatch) -> bool {
 pub(crate) fn written(line: &[u8]) -> bool {
     let mut buf = [0u8; 512];
     let mut content = [0u8; 512];
-    let m = input::bytes(line, 3, &mut content);
-    let n = input::bytes(line, 4, &mut buf);
-    let bytes = input::front(&buf, n);
+    let m = line::bytes(line, 3, &mut content);
+    let n = line::bytes(line, 4, &mut buf);
+    let bytes = line::front(&buf, n);
     let table = log_batch::read_items(bytes);
     let why = table.refusal;
     if why.number != refusal::NONE {
         return false;
     }
-    encoded(line, table, bytes, input::front(&content, m))
+    encoded(line, table, bytes, line::front(&content, m))
 }
 
 fn encoded(line: &[u8], table: LogItemBatch, store: &[u8], content: &[u8]) -> bool {
-    if input::kind(line) == b'w' {
+    if line::kind(line) == b'w' {
         checked(line, table, store, content)
     } else {
         unchecked(line, table, store, content)
@@ -54,27 +54,27 @@ fn encoded(line: &[u8], table: LogItemBatch, store: &[u8], content: &[u8]) -> bo
 
 fn checked(line: &[u8], table: LogItemBatch, store: &[u8], content: &[u8]) -> bool {
     let mut out = [0u8; 1024];
-    let r = LogBatch::encode(table, store, content, input::short(line, 2), &mut out);
+    let r = LogBatch::encode(table, store, content, line::short(line, 2), &mut out);
     if r.number != refusal::NONE {
-        return input::is_refused(line, 6, r.number);
+        return answer::is_refused(line, 6, r.number);
     }
-    input::is_bytes(line, 6, input::front(&out, r.length))
+    answer::is_bytes(line, 6, line::front(&out, r.length))
 }
 
 fn unchecked(line: &[u8], table: LogItemBatch, store: &[u8], content: &[u8]) -> bool {
     let mut out = [0u8; 1024];
-    let r = LogBatch::encode_unchecked(table, store, content, input::short(line, 2), &mut out);
+    let r = LogBatch::encode_unchecked(table, store, content, line::short(line, 2), &mut out);
     if r.number != refusal::NONE {
-        return input::is_refused(line, 6, r.number);
+        return answer::is_refused(line, 6, r.number);
     }
-    input::is_bytes(line, 6, input::front(&out, r.length))
+    answer::is_bytes(line, 6, line::front(&out, r.length))
 }
 
 // view NAME LENGTH BLOCK = CONTENT
 pub(crate) fn view(line: &[u8]) -> bool {
     let mut buf = [0u8; 512];
-    let n = input::bytes(line, 3, &mut buf);
-    let length = input::number(line, 2);
+    let n = line::bytes(line, 3, &mut buf);
+    let length = line::number(line, 2);
     let row = Location {
         queue: LogQueue::Append,
         seq: 1,
@@ -83,31 +83,31 @@ pub(crate) fn view(line: &[u8]) -> bool {
         entry_offset: 0,
         entry_len: content_len(length),
     };
-    content(line, row, input::front(&buf, n), b"")
+    content(line, row, line::front(&buf, n), b"")
 }
 
 fn content_len(length: u64) -> u32 {
     if length < 4 {
         return 0;
     }
-    ((length - 4) % 4_294_967_296) as u32
+    line::low(length - 4)
 }
 
 fn content<'a>(line: &[u8], row: Location, append: &'a [u8], rewrite: &'a [u8]) -> bool {
     let mut number: u32 = 255;
     let bytes = log_batch::entry_view(row, append, rewrite, &mut number);
     if number == refusal::NONE {
-        input::is_bytes(line, 5, bytes)
+        answer::is_bytes(line, 5, bytes)
     } else {
-        input::is_refused(line, 5, number)
+        answer::is_refused(line, 5, number)
     }
 }
 
 // status NAME BYTES = GROUP STATUS, or none
 pub(crate) fn status(line: &[u8]) -> bool {
     let mut buf = [0u8; 64];
-    let n = input::bytes(line, 2, &mut buf);
-    let bytes = input::front(&buf, n);
+    let n = line::bytes(line, 2, &mut buf);
+    let bytes = line::front(&buf, n);
     match LogItem::decode(bytes, 0, 0, 0) {
         ItemRead::Done {
             item,
@@ -122,13 +122,13 @@ pub(crate) fn status(line: &[u8]) -> bool {
 fn marked(line: &[u8], got: StatusRead) -> bool {
     match got {
         StatusRead::Mark { id, status } => {
-            if input::is_number(line, 4, id) {
-                input::is_number(line, 5, status_number(status))
+            if answer::is_number(line, 4, id) {
+                answer::is_number(line, 5, status_number(status))
             } else {
                 false
             }
         }
-        StatusRead::NoMark => input::is_word(line, 4, b"none"),
+        StatusRead::NoMark => answer::is_word(line, 4, b"none"),
         StatusRead::Refused(_) => false,
     }
 }

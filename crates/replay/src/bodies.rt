@@ -1,5 +1,5 @@
 // Single items, bodies read into a table, and bodies written from one.
-use crate::input;
+use crate::answer;
 use crate::items;
 use codec::Wrote;
 use log_batch::LogItemBatch;
@@ -14,9 +14,9 @@ use log_item::TailRead;
 // one NAME TOTAL BYTES = NEXT TOTAL ITEM
 pub(crate) fn one(line: &[u8]) -> bool {
     let mut buf = [0u8; 512];
-    let n = input::bytes(line, 3, &mut buf);
-    let total = input::short(line, 2);
-    let bytes = input::front(&buf, n);
+    let n = line::bytes(line, 3, &mut buf);
+    let total = line::short(line, 2);
+    let bytes = line::front(&buf, n);
     match LogItem::decode(bytes, 0, total, 0) {
         ItemRead::Done {
             item,
@@ -29,7 +29,7 @@ pub(crate) fn one(line: &[u8]) -> bool {
             let c = items::head(line, b, item, bytes);
             0 < one_tails(line, c, bytes, total)
         }
-        ItemRead::Refused(number) => input::is_refused(line, 5, number),
+        ItemRead::Refused(number) => answer::is_refused(line, 5, number),
     }
 }
 
@@ -82,19 +82,19 @@ fn tails(
 // items NAME SIGNATURE BYTES = COUNT ITEM.., the footer put behind it here; footed: with its footer
 pub(crate) fn read(line: &[u8]) -> bool {
     let mut buf = [0u8; 1024];
-    let signature = input::short(line, 2);
-    let count = input::bytes(line, 3, &mut buf);
+    let signature = line::short(line, 2);
+    let count = line::bytes(line, 3, &mut buf);
     let n = seal(line, &mut buf, count, signature);
-    let bytes = input::front(&buf, n);
+    let bytes = line::front(&buf, n);
     table_agrees(line, LogItemBatch::decode(bytes, signature), bytes)
 }
 
 // Puts the footer behind the first n bytes where the kind is items, and answers the length then.
 fn seal(line: &[u8], out: &mut [u8], n: usize, signature: u32) -> usize {
-    if input::kind(line) != b'i' {
+    if line::kind(line) != b'i' {
         return n;
     }
-    let sum = crc::crc32(input::front(out, n));
+    let sum = crc::crc32(line::front(out, n));
     match codec::encode_u32_le(sum ^ signature, out, n) {
         Wrote::Next(next) => next,
         Wrote::NoRoom => n,
@@ -104,7 +104,7 @@ fn seal(line: &[u8], out: &mut [u8], n: usize, signature: u32) -> usize {
 fn table_agrees(line: &[u8], table: LogItemBatch, bytes: &[u8]) -> bool {
     let why = table.refusal;
     if why.number != refusal::NONE {
-        return input::is_refused(line, 5, why.number);
+        return answer::is_refused(line, 5, why.number);
     }
     let k = items::number(line, 5, table.item_count as u64);
     let item_rows = table.items;
@@ -113,7 +113,7 @@ fn table_agrees(line: &[u8], table: LogItemBatch, bytes: &[u8]) -> bool {
     if end == 0 {
         return false;
     }
-    input::word(line, end).len() == 0
+    line::word(line, end).len() == 0
 }
 
 // All items, each with its entries.
@@ -178,16 +178,16 @@ fn entry_words(
 pub(crate) fn written(line: &[u8]) -> bool {
     let mut buf = [0u8; 512];
     let mut out = [0u8; 512];
-    let n = input::bytes(line, 3, &mut buf);
-    let bytes = input::front(&buf, n);
+    let n = line::bytes(line, 3, &mut buf);
+    let bytes = line::front(&buf, n);
     let table = log_batch::read_items(bytes);
     let why = table.refusal;
     if why.number != refusal::NONE {
         return false;
     }
-    let r = LogItemBatch::encode_unchecked(table, bytes, input::short(line, 2), &mut out);
+    let r = LogItemBatch::encode_unchecked(table, bytes, line::short(line, 2), &mut out);
     if r.number != refusal::NONE {
-        return input::is_refused(line, 5, r.number);
+        return answer::is_refused(line, 5, r.number);
     }
-    input::is_bytes(line, 5, input::front(&out, r.length))
+    answer::is_bytes(line, 5, line::front(&out, r.length))
 }

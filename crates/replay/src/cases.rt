@@ -1,7 +1,6 @@
 // The lines of standard input, told apart by their first letter. Input comes in pieces of 65,536 bytes, each of which ends with a line.
 use crate::batches;
 use crate::bodies;
-use crate::input;
 use crate::locations;
 use crate::number;
 use libc::STDIN_FILENO;
@@ -47,11 +46,11 @@ fn lines(text: &[u8], before: Counts) -> Counts {
     let mut counts = before;
     let mut at = 0;
     while at < text.len() {
-        let end = input::find(text, at, b'\n');
+        let end = line::find(text, at, b'\n');
         if text.len() <= end {
             return counts;
         }
-        let line = input::part(text, at, end);
+        let line = line::part(text, at, end);
         counts = counted(counts, compared(line), line);
         at = end + 1;
     }
@@ -67,9 +66,9 @@ fn counted(counts: Counts, got: Outcome, line: &[u8]) -> Counts {
         },
         Outcome::Differs => {
             io::write_all(STDOUT_FILENO, b"differs: ");
-            io::write_all(STDOUT_FILENO, input::word(line, 0));
+            io::write_all(STDOUT_FILENO, line::word(line, 0));
             io::write_all(STDOUT_FILENO, b" ");
-            io::write_all(STDOUT_FILENO, input::word(line, 1));
+            io::write_all(STDOUT_FILENO, line::word(line, 1));
             io::write_all(STDOUT_FILENO, b"\n");
             Counts {
                 cases: more(counts.cases),
@@ -85,7 +84,7 @@ fn more(n: u64) -> u64 {
 }
 
 fn compared(line: &[u8]) -> Outcome {
-    match input::kind(line) {
+    match line::kind(line) {
         b'r' => told(number::read(line)),
         b'n' => told(number::written(line)),
         b'c' => told(number::checksum(line)),

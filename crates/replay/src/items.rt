@@ -1,5 +1,5 @@
 // Items against the words of a line. Each function answers the number of the word after those that it compared, or 0 where one differs.
-use crate::input;
+use crate::answer;
 use log_item::Command;
 use log_item::EntryIndex;
 use log_item::KeyValue;
@@ -22,14 +22,14 @@ pub(crate) fn number(line: &[u8], k: usize, n: u64) -> usize {
     if k == 0 {
         return 0;
     }
-    after(input::is_number(line, k, n), k)
+    after(answer::is_number(line, k, n), k)
 }
 
 fn text(line: &[u8], k: usize, word: &[u8]) -> usize {
     if k == 0 {
         return 0;
     }
-    after(input::is_word(line, k, word), k)
+    after(answer::is_word(line, k, word), k)
 }
 
 fn bytes(line: &[u8], k: usize, body: &[u8], span: Span) -> usize {
@@ -37,9 +37,20 @@ fn bytes(line: &[u8], k: usize, body: &[u8], span: Span) -> usize {
         return 0;
     }
     after(
-        input::is_bytes(line, k, input::span(body, span.at, span.len)),
+        answer::is_bytes(line, k, span_of(body, span.at, span.len)),
         k,
     )
+}
+
+// The bytes of a span, or none where it lies outside.
+fn span_of(bytes: &[u8], at: usize, len: usize) -> &[u8] {
+    if bytes.len() < at {
+        return &bytes[..0];
+    }
+    if bytes.len() - at < len {
+        return &bytes[..0];
+    }
+    &bytes[at..at + len]
 }
 
 // Index, offset and length.

@@ -1,5 +1,4 @@
 // Locations: rewriting, and the fetch before a gate. Tables are of at most 64 rows, six words each.
-use crate::input;
 use crate::items;
 use location_rules::Gate;
 use location_rules::Table;
@@ -11,12 +10,12 @@ use pipe_log::LogQueue;
 
 // move NAME FIRST COUNT ROWS WITH GATE INFIRST ROWS = COUNT ROWS APPEND REWRITE
 pub(crate) fn moved(line: &[u8]) -> bool {
-    let len = input::short(line, 4) as usize;
+    let len = line::short(line, 4) as usize;
     let rows = table_rows(line, 5, len);
     let k = past(5, len);
-    let incoming = input::short(line, on(k, 3)) as usize;
+    let incoming = line::short(line, on(k, 3)) as usize;
     let in_rows = table_rows(line, on(k, 4), incoming);
-    let first = input::number(line, on(k, 2));
+    let first = line::number(line, on(k, 2));
     let gate = gate_at(line, k);
     let table = table_at(line);
     let r = rewrite(rows, len, table, in_rows, incoming, first, gate);
@@ -30,13 +29,13 @@ pub(crate) fn moved(line: &[u8]) -> bool {
 
 // take NAME FIRST COUNT ROWS GATE = PLACE LENGTH
 pub(crate) fn taken(line: &[u8]) -> bool {
-    let len = input::short(line, 4) as usize;
+    let len = line::short(line, 4) as usize;
     let k = past(5, len);
     let r = fetch_entry_indexes_before(
         table_rows(line, 5, len),
         len,
         table_at(line),
-        input::number(line, k),
+        line::number(line, k),
     );
     if r.number != refusal::NONE {
         return false;
@@ -47,16 +46,16 @@ pub(crate) fn taken(line: &[u8]) -> bool {
 
 fn table_at(line: &[u8]) -> Table {
     Table {
-        first: input::number(line, 2),
-        count: input::short(line, 3) as usize,
+        first: line::number(line, 2),
+        count: line::short(line, 3) as usize,
     }
 }
 
 fn gate_at(line: &[u8], k: usize) -> Gate {
-    if input::number(line, k) == 0 {
+    if line::number(line, k) == 0 {
         Gate::None
     } else {
-        Gate::Given(input::number(line, on(k, 1)))
+        Gate::Given(line::number(line, on(k, 1)))
     }
 }
 
@@ -106,18 +105,18 @@ fn blank() -> Location {
 }
 
 fn row(line: &[u8], k: usize) -> Location {
-    let queue = if input::number(line, k) == 0 {
+    let queue = if line::number(line, k) == 0 {
         LogQueue::Append
     } else {
         LogQueue::Rewrite
     };
     Location {
         queue,
-        seq: input::number(line, on(k, 1)),
-        offset: input::number(line, on(k, 2)),
-        len: input::number(line, on(k, 3)),
-        entry_offset: input::short(line, on(k, 4)),
-        entry_len: input::short(line, on(k, 5)),
+        seq: line::number(line, on(k, 1)),
+        offset: line::number(line, on(k, 2)),
+        len: line::number(line, on(k, 3)),
+        entry_offset: line::short(line, on(k, 4)),
+        entry_len: line::short(line, on(k, 5)),
     }
 }
 

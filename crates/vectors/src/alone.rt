@@ -1,5 +1,4 @@
 // One item written by itself at a place of a buffer of 32 bytes, and then its content by itself: the answer and the whole buffer.
-use crate::input;
 use crate::text;
 use log_item::Command;
 use log_item::EntryIndexes;
@@ -12,22 +11,22 @@ use log_item::PartWrote;
 
 pub(crate) fn case(line: &[u8]) {
     let mut buf = [0u8; 64];
-    let n = input::bytes(line, 8, &mut buf);
-    let lent = input::number(line, 4) as usize;
-    match LogItem::decode(text::front(&buf, n), 0, 0, 0) {
+    let n = line::bytes(line, 8, &mut buf);
+    let lent = line::number(line, 4) as usize;
+    match LogItem::decode(line::front(&buf, n), 0, 0, 0) {
         ItemRead::Done {
             item,
             next: _,
             total: _,
             used: _,
-        } => both(line, item, text::front(&buf, lent)),
+        } => both(line, item, line::front(&buf, lent)),
         ItemRead::Refused(_) => {}
     }
 }
 
 fn both(line: &[u8], item: LogItem, store: &[u8]) {
     let content = item.content;
-    let at = input::number(line, 2) as usize;
+    let at = line::number(line, 2) as usize;
     whole(line, item, store, at);
     piece(line, content, store, at);
 }
@@ -35,7 +34,7 @@ fn both(line: &[u8], item: LogItem, store: &[u8]) {
 fn whole(line: &[u8], item: LogItem, store: &[u8], at: usize) {
     let mut out = [170u8; 32];
     let r = encode(line, item, store, &mut out, at);
-    input::start(line);
+    text::head(line);
     match r {
         ItemWrote::Next { next, total } => answer(0, next, total),
         ItemWrote::Refused(number) => answer(number, 0, 0),
@@ -46,13 +45,13 @@ fn whole(line: &[u8], item: LogItem, store: &[u8], at: usize) {
 
 // Writes the item with one length or two.
 fn encode(line: &[u8], item: LogItem, store: &[u8], out: &mut [u8], at: usize) -> ItemWrote {
-    let total = input::short(line, 3);
-    let first = input::short(line, 6);
-    if input::number(line, 5) == 1 {
+    let total = line::short(line, 3);
+    let first = line::short(line, 6);
+    if line::number(line, 5) == 1 {
         let one = [first];
         return LogItem::encode(item, store, &one, total, out, at);
     }
-    let two = [first, input::short(line, 7)];
+    let two = [first, line::short(line, 7)];
     LogItem::encode(item, store, &two, total, out, at)
 }
 
@@ -66,7 +65,7 @@ fn piece(line: &[u8], content: LogItemContent, store: &[u8], at: usize) {
     let mut out = [170u8; 32];
     let r = content_alone(content, store, &mut out, at);
     text::start(b"piece");
-    text::word(input::word(line, 1));
+    text::word(line::word(line, 1));
     match r {
         PartWrote::Next(next) => answer(0, next, 0),
         PartWrote::Refused(number) => answer(number, 0, 0),

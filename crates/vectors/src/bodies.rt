@@ -1,5 +1,4 @@
 // Bodies and whole batches: the table that one gives, or its refusal; what a body holds, without a table; and plain form.
-use crate::input;
 use crate::tables;
 use crate::text;
 use codec::Wrote;
@@ -11,19 +10,19 @@ use log_batch::PlainForm;
 // A body or a whole batch, read into a table.
 pub(crate) fn case(line: &[u8]) {
     let mut buf = [0u8; 2048];
-    let signature = input::short(line, 2);
-    let count = input::bytes(line, 3, &mut buf);
+    let signature = line::short(line, 2);
+    let count = line::bytes(line, 3, &mut buf);
     let n = seal(line, &mut buf, count, signature);
-    let table = read(input::kind(line), text::front(&buf, n), signature);
-    tables::line(input::word(line, 0), input::word(line, 1), table);
+    let table = read(line::kind(line), line::front(&buf, n), signature);
+    tables::line(line::word(line, 0), line::word(line, 1), table);
 }
 
 // Puts the footer behind the first n bytes where the kind is items, and answers the length then.
 fn seal(line: &[u8], out: &mut [u8], n: usize, signature: u32) -> usize {
-    if input::kind(line) != b'i' {
+    if line::kind(line) != b'i' {
         return n;
     }
-    let sum = crc::crc32(text::front(out, n));
+    let sum = crc::crc32(line::front(out, n));
     match codec::encode_u32_le(sum ^ signature, out, n) {
         Wrote::Next(next) => next,
         Wrote::NoRoom => n,
@@ -42,9 +41,9 @@ pub(crate) fn read(letter: u8, bytes: &[u8], signature: u32) -> LogItemBatch {
 // Items, and then the place after the last of them.
 pub(crate) fn go_over(line: &[u8]) {
     let mut buf = [0u8; 64];
-    let n = input::bytes(line, 2, &mut buf);
-    input::start(line);
-    counts(log_batch::check_items(text::front(&buf, n)));
+    let n = line::bytes(line, 2, &mut buf);
+    text::head(line);
+    counts(log_batch::check_items(line::front(&buf, n)));
     text::end();
 }
 
@@ -68,9 +67,9 @@ fn counts(got: BodyCheck) {
 
 pub(crate) fn plain(line: &[u8]) {
     let mut buf = [0u8; 64];
-    let n = input::bytes(line, 2, &mut buf);
-    input::start(line);
-    form(log_batch::plain(text::front(&buf, n), 0));
+    let n = line::bytes(line, 2, &mut buf);
+    text::head(line);
+    form(log_batch::plain(line::front(&buf, n), 0));
     text::end();
 }
 

@@ -30,7 +30,6 @@
 use crate::alone;
 use crate::bodies;
 use crate::headers;
-use crate::input;
 use crate::number;
 use crate::rewrites;
 use crate::statuses;
@@ -49,17 +48,17 @@ pub(crate) fn run() {
 fn lines(text: &[u8]) {
     let mut at = 0;
     while at < text.len() {
-        let end = input::find(text, at, b'\n');
+        let end = line::find(text, at, b'\n');
         if text.len() <= end {
             return;
         }
-        line(input::part(text, at, end));
+        line(line::part(text, at, end));
         at = end + 1;
     }
 }
 
 fn line(line: &[u8]) {
-    match input::kind(line) {
+    match line::kind(line) {
         b'a' => alone::case(line),
         b'c' => sums::case(line),
         b'n' => number::number(line),

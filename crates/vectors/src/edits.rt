@@ -10,7 +10,6 @@
 //     key I N        the length of that key
 //     start I N      where the content of item I stands, where it is a put
 //     value I N      the length of that content
-use crate::input;
 use log_batch::LogItemBatch;
 use log_item::EntryIndex;
 use log_item::EntryIndexes;
@@ -23,22 +22,22 @@ use refusal::Refusal;
 
 // Up to three edits, from word 7 on.
 pub(crate) fn edited(words: &[u8], table: LogItemBatch) -> LogItemBatch {
-    let first = input::after(words, 7);
-    let second = input::after(first, 3);
-    let third = input::after(second, 3);
+    let first = line::after(words, 7);
+    let second = line::after(first, 3);
+    let third = line::after(second, 3);
     edit(third, edit(second, edit(first, table)))
 }
 
 // The edit that the first three words name; none where there are no words.
 fn edit(words: &[u8], table: LogItemBatch) -> LogItemBatch {
-    let letter = input::kind(words);
+    let letter = line::kind(words);
     if letter == b' ' {
         return table;
     }
     make(
         letter,
-        input::number(words, 1) as usize,
-        input::number(words, 2),
+        line::number(words, 1) as usize,
+        line::number(words, 2),
         table,
     )
 }
@@ -47,8 +46,8 @@ fn make(what: u8, row: usize, n: u64, table: LogItemBatch) -> LogItemBatch {
     match what {
         b'i' => items(table, n as usize),
         b'r' => rows(table, n as usize),
-        b'l' => length(table, row, input::low(n)),
-        b'u' => unread(table, row, input::low(n)),
+        b'l' => length(table, row, line::low(n)),
+        b'u' => unread(table, row, line::low(n)),
         _ => item(table, what, row, n),
     }
 }

@@ -1,22 +1,21 @@
 // Headers: the frame that one states, or its refusal; and a frame made of its numbers.
-use crate::input;
 use crate::text;
 use log_batch::HeaderRead;
 use log_batch::LogBatch;
 
 pub(crate) fn case(line: &[u8]) {
     let mut buf = [0u8; 16];
-    let n = input::bytes(line, 2, &mut buf);
-    input::start(line);
-    answer(LogBatch::decode_header(text::front(&buf, n)));
+    let n = line::bytes(line, 2, &mut buf);
+    text::head(line);
+    answer(LogBatch::decode_header(line::front(&buf, n)));
     text::end();
 }
 
 pub(crate) fn made(line: &[u8]) {
-    input::start(line);
+    text::head(line);
     frame(LogBatch::new(
-        input::number(line, 2) as usize,
-        input::number(line, 3) as usize,
+        line::number(line, 2) as usize,
+        line::number(line, 3) as usize,
     ));
     text::end();
 }

@@ -1,6 +1,5 @@
 // Rows of locations, as a word spells them and as a line shows them. A row is QUEUE,FILE,PLACE,BLOCKLENGTH,OFFSET,LENGTH: its queue is A
 // or R, the rest is in hex, and what is left out at the end is 0. Rows are joined by semicolons, and `-` is none.
-use crate::input;
 use crate::text;
 use pipe_log::Location;
 use pipe_log::LogQueue;
@@ -15,12 +14,12 @@ pub(crate) fn rows(word: &[u8]) -> Run {
     let mut rows = [row(b"A"); 64];
     let mut len = 0;
     let mut at = 0;
-    if input::kind(word) == b'-' {
+    if line::kind(word) == b'-' {
         return Run { rows, len };
     }
     while len < 64 {
-        let end = input::find(word, at, b';');
-        rows[len] = row(input::part(word, at, end));
+        let end = line::find(word, at, b';');
+        rows[len] = row(line::part(word, at, end));
         len += 1;
         if word.len() <= end {
             return Run { rows, len };
@@ -33,12 +32,12 @@ pub(crate) fn rows(word: &[u8]) -> Run {
 fn row(word: &[u8]) -> Location {
     let n = numbers(word);
     Location {
-        queue: queue(input::kind(word)),
+        queue: queue(line::kind(word)),
         seq: n[1],
         offset: n[2],
         len: n[3],
-        entry_offset: input::low(n[4]),
-        entry_len: input::low(n[5]),
+        entry_offset: line::low(n[4]),
+        entry_len: line::low(n[5]),
     }
 }
 
@@ -56,8 +55,8 @@ fn numbers(word: &[u8]) -> [u64; 6] {
     let mut at = 0;
     let mut k = 0;
     while k < 6 {
-        let end = input::find(word, at, b',');
-        out[k] = input::value(input::part(word, at, end));
+        let end = line::find(word, at, b',');
+        out[k] = line::value(line::part(word, at, end));
         k += 1;
         if word.len() <= end {
             return out;

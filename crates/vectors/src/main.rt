@@ -5,7 +5,6 @@ mod bodies;
 mod cases;
 mod edits;
 mod headers;
-mod input;
 mod locations;
 mod number;
 mod rewrites;

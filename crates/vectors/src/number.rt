@@ -1,5 +1,4 @@
 // Numbers, written, read back, and read in every padded form; bytes read as a number; and words.
-use crate::input;
 use crate::text;
 use codec::NumberRead;
 use codec::U32Read;
@@ -7,16 +6,16 @@ use codec::U64Read;
 
 // The shortest form, read back, then each longer form of the same number: by the functions for a number by itself.
 pub(crate) fn number(line: &[u8]) {
-    let n = input::number(line, 1);
+    let n = line::number(line, 1);
     let mut buf = [0u8; 10];
     let len = codec::var_u64_len(n);
     codec::encode_var_u64_unrolled(n, &mut buf, 0);
     text::start(b"number");
     text::number(n);
     text::number(len as u64);
-    text::hex(text::front(&buf, len));
+    text::hex(line::front(&buf, len));
     text::end();
-    alone(text::front(&buf, len));
+    alone(line::front(&buf, len));
     padded(buf, len);
 }
 
@@ -31,14 +30,14 @@ fn padded(bytes: [u8; 10], len: usize) {
         buf[n - 1] = 128 + buf[n - 1] % 128;
         buf[n] = 0;
         n += 1;
-        alone(text::front(&buf, n));
+        alone(line::front(&buf, n));
     }
 }
 
 pub(crate) fn bytes(line: &[u8]) {
     let mut buf = [0u8; 16];
-    let n = input::bytes(line, 1, &mut buf);
-    let number = text::front(&buf, n);
+    let n = line::bytes(line, 1, &mut buf);
+    let number = line::front(&buf, n);
     read(number, codec::decode_var_u64(number, 0));
 }
 
@@ -63,11 +62,11 @@ fn read(bytes: &[u8], got: NumberRead) {
 // Eight bytes, the word read back from them, and what seven of them give.
 pub(crate) fn big(line: &[u8]) {
     let mut buf = [0u8; 8];
-    codec::encode_u64(input::number(line, 1), &mut buf, 0);
+    codec::encode_u64(line::number(line, 1), &mut buf, 0);
     text::start(b"u64");
     text::hex(&buf);
     read64(&buf);
-    read64(text::front(&buf, 7));
+    read64(line::front(&buf, 7));
     text::end();
 }
 
@@ -84,11 +83,11 @@ fn read64(bytes: &[u8]) {
 // Four bytes, the word read back from them, and what three of them give.
 pub(crate) fn little(line: &[u8]) {
     let mut buf = [0u8; 4];
-    codec::encode_u32_le(input::short(line, 1), &mut buf, 0);
+    codec::encode_u32_le(line::short(line, 1), &mut buf, 0);
     text::start(b"u32");
     text::hex(&buf);
     read32(&buf);
-    read32(text::front(&buf, 3));
+    read32(line::front(&buf, 3));
     text::end();
 }
 

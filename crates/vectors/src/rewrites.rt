@@ -1,6 +1,5 @@
 // Tables of locations, rewritten and fetched from. A line of answer is a rewrite's number, how many rows it replaced, the count, and the
 // rows afterwards; or a fetch's number, place and length.
-use crate::input;
 use crate::locations;
 use crate::text;
 use location_rules::Gate;
@@ -16,12 +15,12 @@ struct Memtable {
 
 // The calls that a line names, one after another.
 pub(crate) fn case(line: &[u8]) {
-    let words = input::after(line, 2);
+    let words = line::after(line, 2);
     let mut table = table(words);
     let mut k = 3;
     while k < 32 {
-        let call = input::after(words, k);
-        match input::kind(call) {
+        let call = line::after(words, k);
+        match line::kind(call) {
             b'r' => {
                 table = rewrite(line, call, table);
                 k += 4;
@@ -36,29 +35,29 @@ pub(crate) fn case(line: &[u8]) {
 }
 
 fn table(words: &[u8]) -> Memtable {
-    let rows = locations::rows(input::word(words, 2));
+    let rows = locations::rows(line::word(words, 2));
     let all = rows.rows;
     Memtable {
         rows: all,
         len: rows.len,
         table: Table {
-            first: input::number(words, 0),
-            count: input::number(words, 1) as usize,
+            first: line::number(words, 0),
+            count: line::number(words, 1) as usize,
         },
     }
 }
 
 // Begins the line of a call's answer.
 fn start(line: &[u8], call: &[u8]) {
-    text::start(input::word(call, 0));
-    text::word(input::word(line, 1));
+    text::start(line::word(call, 0));
+    text::word(line::word(line, 1));
 }
 
 // The table after a rewrite.
 fn rewrite(line: &[u8], call: &[u8], from: Memtable) -> Memtable {
-    let incoming = locations::rows(input::word(call, 3));
-    let first = input::number(call, 2);
-    let gate = gate(input::word(call, 1));
+    let incoming = locations::rows(line::word(call, 3));
+    let first = line::number(call, 2);
+    let gate = gate(line::word(call, 1));
     let table = from.table;
     let rows = from.rows;
     let coming = incoming.rows;
@@ -82,10 +81,10 @@ fn rewrite(line: &[u8], call: &[u8], from: Memtable) -> Memtable {
 }
 
 fn gate(word: &[u8]) -> Gate {
-    if input::kind(word) == b'-' {
+    if line::kind(word) == b'-' {
         Gate::None
     } else {
-        Gate::Given(input::value(word))
+        Gate::Given(line::value(word))
     }
 }
 
@@ -96,7 +95,7 @@ fn fetch(line: &[u8], call: &[u8], from: Memtable) {
         rows,
         from.len,
         table,
-        input::number(call, 1),
+        line::number(call, 1),
     );
     start(line, call);
     text::number(r.number as u64);

@@ -1,5 +1,4 @@
 // The status that an item marks.
-use crate::input;
 use crate::text;
 use log_batch::AtomicGroupStatus;
 use log_batch::StatusRead;
@@ -9,10 +8,10 @@ use refusal::Refusal;
 
 pub(crate) fn case(line: &[u8]) {
     let mut buf = [0u8; 16];
-    let n = input::bytes(line, 3, &mut buf);
-    let lent = input::short(line, 2) as usize;
-    input::start(line);
-    answer(mark(text::front(&buf, n), lent));
+    let n = line::bytes(line, 3, &mut buf);
+    let lent = line::short(line, 2) as usize;
+    text::head(line);
+    answer(mark(line::front(&buf, n), lent));
     text::end();
 }
 
@@ -24,7 +23,7 @@ fn mark(bytes: &[u8], lent: usize) -> StatusRead {
             next: _,
             total: _,
             used: _,
-        } => AtomicGroupStatus::parse(item, text::front(bytes, lent)),
+        } => AtomicGroupStatus::parse(item, line::front(bytes, lent)),
         ItemRead::Refused(number) => StatusRead::Refused(Refusal { number, item: 0 }),
     }
 }

@@ -1,6 +1,5 @@
 // Bodies stepped through, an item at a time and its rows one at a time. The line has what each call answers: an item, its rows, and `.`
 // where they end; the end; or the refusal.
-use crate::input;
 use crate::tables;
 use crate::text;
 use item_reader::EntryRows;
@@ -9,12 +8,12 @@ use item_reader::RowRead;
 
 pub(crate) fn case(line: &[u8]) {
     let mut buf = [0u8; 2048];
-    let n = input::bytes(line, 4, &mut buf);
-    input::start(line);
+    let n = line::bytes(line, 4, &mut buf);
+    text::head(line);
     calls(
-        text::front(&buf, n),
-        input::short(line, 2),
-        input::number(line, 3) as usize,
+        line::front(&buf, n),
+        line::short(line, 2),
+        line::number(line, 3) as usize,
     );
     text::end();
 }
@@ -76,15 +75,15 @@ fn entry(body: &[u8], rows: EntryRows) -> EntryRows {
 // The next row from a place on, and where it leaves off.
 pub(crate) fn tail(line: &[u8]) {
     let mut buf = [0u8; 32];
-    let n = input::bytes(line, 6, &mut buf);
+    let n = line::bytes(line, 6, &mut buf);
     let rows = EntryRows {
-        at: input::number(line, 2) as usize,
-        total: input::short(line, 3),
-        index: input::number(line, 4),
-        left: input::number(line, 5) as usize,
+        at: line::number(line, 2) as usize,
+        total: line::short(line, 3),
+        index: line::number(line, 4),
+        left: line::number(line, 5) as usize,
     };
-    input::start(line);
-    place(entry(text::front(&buf, n), rows));
+    text::head(line);
+    place(entry(line::front(&buf, n), rows));
     text::end();
 }
 

@@ -6,6 +6,12 @@ pub(crate) fn start(word: &[u8]) {
     io::write_all(STDOUT_FILENO, word);
 }
 
+// Begins the line of an answer with the kind and the name of the case.
+pub(crate) fn head(line: &[u8]) {
+    start(line::word(line, 0));
+    word(line::word(line, 1));
+}
+
 pub(crate) fn word(word: &[u8]) {
     io::write_all(STDOUT_FILENO, b" ");
     io::write_all(STDOUT_FILENO, word);
@@ -78,9 +84,4 @@ pub(crate) fn refusal(why: Refusal) {
 
 pub(crate) fn end() {
     io::write_all(STDOUT_FILENO, b"\n");
-}
-
-// The first n bytes, or all where there are fewer.
-pub(crate) fn front(bytes: &[u8], n: usize) -> &[u8] {
-    if n <= bytes.len() { &bytes[..n] } else { bytes }
 }

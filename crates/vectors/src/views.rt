@@ -1,5 +1,4 @@
 // The bytes of an entry, as a part of the block that its row's queue names: the refusal's number or 0, the part's length, and the part.
-use crate::input;
 use crate::text;
 use pipe_log::Location;
 use pipe_log::LogQueue;
@@ -7,15 +6,15 @@ use pipe_log::LogQueue;
 pub(crate) fn case(line: &[u8]) {
     let mut append = [0u8; 32];
     let mut rewrite = [0u8; 32];
-    let m = input::bytes(line, 6, &mut append);
-    let n = input::bytes(line, 7, &mut rewrite);
-    input::start(line);
-    view(row(line), text::front(&append, m), text::front(&rewrite, n));
+    let m = line::bytes(line, 6, &mut append);
+    let n = line::bytes(line, 7, &mut rewrite);
+    text::head(line);
+    view(row(line), line::front(&append, m), line::front(&rewrite, n));
     text::end();
 }
 
 fn row(line: &[u8]) -> Location {
-    let queue = if input::number(line, 2) == 0 {
+    let queue = if line::number(line, 2) == 0 {
         LogQueue::Append
     } else {
         LogQueue::Rewrite
@@ -24,9 +23,9 @@ fn row(line: &[u8]) -> Location {
         queue,
         seq: 1,
         offset: 16,
-        len: input::number(line, 3),
-        entry_offset: input::short(line, 4),
-        entry_len: input::short(line, 5),
+        len: line::number(line, 3),
+        entry_offset: line::short(line, 4),
+        entry_len: line::short(line, 5),
     }
 }
 

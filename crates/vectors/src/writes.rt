@@ -2,7 +2,6 @@
 // read back. A table comes from a body, and may be edited to one that no reading gives. `words` is what a line has after the name.
 use crate::bodies;
 use crate::edits;
-use crate::input;
 use crate::tables;
 use crate::text;
 use list_writer::Encoded;
@@ -13,19 +12,19 @@ pub(crate) fn case(line: &[u8]) {
     let mut body = [0u8; 2048];
     let mut content = [0u8; 64];
     let mut out = [170u8; 2048];
-    let words = input::after(line, 2);
-    let room = input::number(words, 4) as usize;
-    let m = input::bytes(words, 5, &mut content);
-    let n = input::bytes(words, 6, &mut body);
+    let words = line::after(line, 2);
+    let room = line::number(words, 4) as usize;
+    let m = line::bytes(words, 5, &mut content);
+    let n = line::bytes(words, 6, &mut body);
     let r = write(
         words,
-        text::front(&body, n),
-        text::front(&content, m),
+        line::front(&body, n),
+        line::front(&content, m),
         &mut out,
         room,
     );
-    answer(line, r, text::front(&out, room));
-    back(line, words, text::front(&out, r.length));
+    answer(line, r, line::front(&out, room));
+    back(line, words, line::front(&out, r.length));
 }
 
 // Writes the table of a body, edited, into the first `room` bytes of out, or into all where there are fewer.
@@ -45,14 +44,14 @@ fn encode(
     content: &[u8],
     out: &mut [u8],
 ) -> Encoded {
-    let signature = input::short(words, 2);
-    if input::letter(words, 0) == b'w' {
-        if input::letter(words, 1) == b'c' {
+    let signature = line::short(words, 2);
+    if line::kind(line::word(words, 0)) == b'w' {
+        if line::kind(line::word(words, 1)) == b'c' {
             LogBatch::encode(table, store, content, signature, out)
         } else {
             LogBatch::encode_unchecked(table, store, content, signature, out)
         }
-    } else if input::letter(words, 1) == b'c' {
+    } else if line::kind(line::word(words, 1)) == b'c' {
         LogItemBatch::encode(table, store, signature, out)
     } else {
         LogItemBatch::encode_unchecked(table, store, signature, out)
@@ -61,12 +60,12 @@ fn encode(
 
 // Number, item and length, the bytes written, and the rest of the buffer.
 fn answer(line: &[u8], r: Encoded, out: &[u8]) {
-    input::start(line);
+    text::head(line);
     text::number(r.number as u64);
     text::number(r.item as u64);
     text::number(r.length as u64);
-    text::bytes(text::front(out, r.length));
-    text::bytes(input::part(out, r.length, out.len()));
+    text::bytes(line::front(out, r.length));
+    text::bytes(line::part(out, r.length, out.len()));
     text::end();
 }
 
@@ -75,6 +74,10 @@ fn back(line: &[u8], words: &[u8], bytes: &[u8]) {
     if bytes.len() == 0 {
         return;
     }
-    let table = bodies::read(input::letter(words, 0), bytes, input::short(words, 3));
-    tables::line(b"back", input::word(line, 1), table);
+    let table = bodies::read(
+        line::kind(line::word(words, 0)),
+        bytes,
+        line::short(words, 3),
+    );
+    tables::line(b"back", line::word(line, 1), table);
 }

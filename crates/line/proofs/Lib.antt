@@ -1,0 +1,4 @@
+pub mod Places
+pub mod Digits
+pub mod Theorems
+pub mod Determined

@@ -1,0 +1,22 @@
+-- `line::word` meets its contract.
+-- Assumes nothing.
+use denote.Ref.{now}
+use Rattle.line.proofs.Places.{word-front}
+use borrow.Author.Needs.{needs}
+use Rattle.line.proofs.word.Statement.{statement}
+use Rattle.line.proofs.word.Tie as tie
+
+after-requires : tie.Need-after-requires
+after-requires c κs = search needs
+
+find-requires : tie.Need-find-requires
+find-requires c κs = search needs
+
+front-requires : tie.Need-front-requires
+front-requires c κs = search needs
+
+returns : tie.Need-returns
+returns c = let a = c .before .before .before .before .args in rw (c .front .ensures) (word-front (now (a .line)) (a .k) (now (c .before .before .after .result)) (c .before .find .result) (c .before .before .after .ensures) (c .before .find .ensures))
+
+pub word-spec : {M : Type 1} → statement M
+word-spec = tie.close (tie.spec after-requires find-requires front-requires returns)
