@@ -1,7 +1,6 @@
 // Single items, bodies read into a table, and bodies written from one.
 use crate::answer;
 use crate::items;
-use codec::Wrote;
 use log_batch::LogItemBatch;
 use log_item::EntryIndex;
 use log_item::EntryIndexes;
@@ -83,22 +82,12 @@ fn tails(
 pub(crate) fn read(line: &[u8]) -> bool {
     let mut buf = [0u8; 1024];
     let signature = line::short(line, 2);
-    let count = line::bytes(line, 3, &mut buf);
-    let n = seal(line, &mut buf, count, signature);
+    let mut n = line::bytes(line, 3, &mut buf);
+    if line::kind(line) == b'i' {
+        n = list_writer::write_footer(signature, &mut buf, 0, n);
+    }
     let bytes = line::front(&buf, n);
     table_agrees(line, LogItemBatch::decode(bytes, signature), bytes)
-}
-
-// Puts the footer behind the first n bytes where the kind is items, and answers the length then.
-fn seal(line: &[u8], out: &mut [u8], n: usize, signature: u32) -> usize {
-    if line::kind(line) != b'i' {
-        return n;
-    }
-    let sum = crc::crc32(line::front(out, n));
-    match codec::encode_u32_le(sum ^ signature, out, n) {
-        Wrote::Next(next) => next,
-        Wrote::NoRoom => n,
-    }
 }
 
 fn table_agrees(line: &[u8], table: LogItemBatch, bytes: &[u8]) -> bool {

@@ -1,7 +1,6 @@
 // Bodies and whole batches: the table that one gives, or its refusal; what a body holds, without a table; and plain form.
 use crate::tables;
 use crate::text;
-use codec::Wrote;
 use log_batch::BodyCheck;
 use log_batch::LogBatch;
 use log_batch::LogItemBatch;
@@ -11,22 +10,12 @@ use log_batch::PlainForm;
 pub(crate) fn case(line: &[u8]) {
     let mut buf = [0u8; 2048];
     let signature = line::short(line, 2);
-    let count = line::bytes(line, 3, &mut buf);
-    let n = seal(line, &mut buf, count, signature);
+    let mut n = line::bytes(line, 3, &mut buf);
+    if line::kind(line) == b'i' {
+        n = list_writer::write_footer(signature, &mut buf, 0, n);
+    }
     let table = read(line::kind(line), line::front(&buf, n), signature);
     tables::line(line::word(line, 0), line::word(line, 1), table);
-}
-
-// Puts the footer behind the first n bytes where the kind is items, and answers the length then.
-fn seal(line: &[u8], out: &mut [u8], n: usize, signature: u32) -> usize {
-    if line::kind(line) != b'i' {
-        return n;
-    }
-    let sum = crc::crc32(line::front(out, n));
-    match codec::encode_u32_le(sum ^ signature, out, n) {
-        Wrote::Next(next) => next,
-        Wrote::NoRoom => n,
-    }
 }
 
 // The table of a whole batch where the letter is that of `whole`, else of a body.
