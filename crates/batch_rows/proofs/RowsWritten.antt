@@ -12,7 +12,7 @@ use Rattle.list_writer.proofs.Bodies.{accepted, body-length}
 use Rattle.rows_writer.specs.Rows.{rowItems, entryLengths, measureRows, rowsBytes}
 use Rattle.rows_writer.proofs.RowsMeasuring.{rows-accepted}
 use Rattle.log_batch.proofs.Planning.{body-small}
-use Rattle.log_batch.proofs.Framing.{Sized}
+use Rattle.log_batch.proofs.Written.{Sized}
 
 module _ (s : List ℕ) (checked : Bool) (items entries : List ℕ) where
   -- A body that is not refused is short enough for the sums behind it.

@@ -16,7 +16,7 @@ use Rattle.numbers.proofs.NumberRead.{the-type}
 use Rattle.log_item.specs.Got.{got, refused}
 use Rattle.log_item.specs.Entries.{entriesOf, tailRow}
 use Rattle.log_item.specs.Pieces.{numberGot}
-use Rattle.log_item.proofs.Smallest.{number-any}
+use Rattle.log_item.proofs.Pieces.{number-any}
 use Rattle.log_item.specs.Reading.{head, tail, tails}
 use Rattle.log_item.specs.declared.Form.the-variants.{Any}
 use Rattle.log_item.specs.declared.LogItem.{LogItem}
@@ -26,7 +26,7 @@ use Rattle.log_item.proofs.Known.{tail-known, head-known, head-room}
 use Rattle.log_batch.specs.Reading.{accepted, rejected, items, readItems}
 use Rattle.log_batch.proofs.Checking.{count-good}
 use Rattle.log_item.specs.Blank.{blankItem, blankEntry}
-use Rattle.log_batch.proofs.Rows.{FilledRows, rows-none, rows-set, rows-take}
+use Rattle.log_batch.proofs.FilledRows.{FilledRows, rows-none, rows-set, rows-take}
 use Rattle.log_batch.proofs.Coming.{prepend, behind, rest, prepend-none, prepend-item, prepend-row, row-suc, bad-suc, rest-zero, item-suc, no-item}
 
 -- k items are wanted, i are in the table xs, and j rows in the table rows; n tails are left of the item before, the first of them with the

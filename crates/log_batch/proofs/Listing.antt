@@ -24,7 +24,7 @@ use Rattle.log_item.specs.Place.{At, Found, Asks}
 use Rattle.log_item.proofs.Holds.{Says, holds, after, if-most}
 use Rattle.log_item.proofs.Place.{join, cut, at-nothing, at-front}
 use Rattle.log_item.proofs.Numbers.{complete-number, sound-number, number-some, in-any}
-use Rattle.log_batch.proofs.ItemRows.{item-length, item-joined, item-consecutive, joined-append}
+use Rattle.log_batch.proofs.Rows.{item-length, item-joined, item-consecutive, joined-append}
 use Rattle.log_item.proofs.Every.{each-append, each-split}
 use Rattle.log_item.proofs.Complete.{complete-item}
 use Rattle.log_item.proofs.Sound.{sound-item}

@@ -1,45 +1,45 @@
--- A table of n rows of which the first k are filled and the others blank, for rows of any type.
+-- The rows of an item: how many there are, and how their spans and indexes lie.
 -- Assumes nothing.
-use Prim.Native.Nat.{ℕ, suc, _+_, _-_, _≤_, _<_}
-use mathlib.Core.Path.{_≡_, sym, ap, _∙_}
+use Prim.Native.Nat.{ℕ, _+_, _-_}
+use mathlib.Core.Path.{_≡_, refl}
 use mathlib.Core.List.{List, [], _∷_, _++_}
-use native.Mathlib.Numerals.{add-one}
 use native.Mathlib.Omega.{arith}
-use lib.ListN.{length, take, drop, set, replicate, length-set, length-replicate, take-append-drop}
-use lib.Seq.{take-suc-set, drop-set-lt, drop-drop, length-take-le}
-use Rattle.log_batch.specs.Table.{pad}
+use lib.ListN.{length}
+use Rattle.log_item.specs.declared.LogItem.{LogItem}
+use Rattle.log_item.specs.declared.EntryIndex.{EntryIndex}
+use Rattle.log_item.specs.Entries.{entriesOf}
+use Rattle.log_item.specs.Spelling.{Tails, no-more, next, OneItem, item}
+use Rattle.log_batch.specs.Rows.{Joined, Consecutive}
+use Rattle.log_batch.specs.Rows as lie
+use Rattle.log_item.proofs.Complete.{tails-length}
 
-pub record FilledRows {A : Type 0} (z : A) (n k : ℕ) (xs : List A) : Type 0 where
-  pub size : length xs ≡ n
-  pub blank : drop k xs ≡ replicate (n - k) z
+module _ {N : ℕ → List ℕ → Type 0} where
+  -- The entry spans start at the total before, each where the one before ended, and the last ends at the total after.
+  pub tails-joined : {n i t u : ℕ} {rows : List EntryIndex} {x : List ℕ} → Tails N n i rows t u x → Joined t u rows
+  tails-joined no-more = lie.Joined.end
+  tails-joined (next {t = t} {w = w} num rises g) =
+      let e : w ≡ t + (w - t) = omega arith in
+      lie.Joined.then refl (rw e at (tails-joined g))
 
-module _ {A : Type 0} {z : A} where
-  -- No row is filled.
-  pub rows-none : (n : ℕ) → FilledRows z n 0 (replicate n z)
-  rows-none n =
-      let all : n ≡ n - 0 = omega arith in
-      record { size = length-replicate n z; blank = ap (λ (m : ℕ). replicate m z) all }
+  -- The indexes are consecutive.
+  pub tails-consecutive : {n i t u : ℕ} {rows : List EntryIndex} {x : List ℕ} → Tails N n i rows t u x → Consecutive i rows
+  tails-consecutive no-more = lie.Consecutive.end
+  tails-consecutive (next num rises g) = lie.Consecutive.then refl (tails-consecutive g)
 
-  module _ {n k : ℕ} {xs : List A} (r : FilledRows z n k xs) where
-    -- The row after the filled ones is filled.
-    pub rows-set : (v : A) → k < n → FilledRows z n (k + 1) (set xs k v)
-    rows-set v h =
-        let one : n - k ≡ suc (n - (k + 1)) = omega arith in
-        record {
-          size = length-set xs k v ∙ r .size;
-          blank =
-              drop-set-lt (k + 1) xs k v (omega arith) ∙ sym (drop-drop 1 k xs) ∙ ap (drop 1) (r .blank)
-              ∙ ap (λ (m : ℕ). drop 1 (replicate m z)) one;
-        }
+  -- An item has as many rows as it states entries.
+  pub item-length : {x : LogItem} {rows : List EntryIndex} {t u p : ℕ} {bytes : List ℕ} → OneItem N x rows t u p bytes → length rows ≡ entriesOf (x .content) .count
+  item-length (item num c g) = tails-length g
 
-    pub rows-take : (v : A) → k < n → take (k + 1) (set xs k v) ≡ take k xs ++ (v ∷ [])
-    rows-take v h = rw add-one (take-suc-set xs k v (omega (arith, r .size)))
+  -- The entry spans of an item start at the total before it, each where the one before ended, and the last ends at the total after it.
+  pub item-joined : {x : LogItem} {rows : List EntryIndex} {t u p : ℕ} {bytes : List ℕ} → OneItem N x rows t u p bytes → Joined t u rows
+  item-joined (item num c g) = tails-joined g
 
-    -- The filled rows, and the table of them.
-    pub rows-length : k ≤ n → length (take k xs) ≡ k
-    rows-length h = length-take-le k xs (omega (arith, r .size))
+  -- The indexes of an item are consecutive from its first index on.
+  pub item-consecutive : {x : LogItem} {rows : List EntryIndex} {t u p : ℕ} {bytes : List ℕ} → OneItem N x rows t u p bytes
+      → Consecutive (entriesOf (x .content) .«first_index») rows
+  item-consecutive (item num c g) = tails-consecutive g
 
-    pub rows-pad : k ≤ n → xs ≡ pad z n (take k xs)
-    rows-pad h =
-        sym (take-append-drop k xs) ∙ ap (λ (l : List A). take k xs ++ l) (r .blank)
-        ∙ ap (λ (m : ℕ). take k xs ++ replicate (n - m) z) (sym (rows-length h))
+-- Entry spans, and entry spans that start where the first ones end, are joined together.
+pub joined-append : {t v u : ℕ} {a b : List EntryIndex} → Joined t v a → Joined v u b → Joined t u (a ++ b)
+joined-append lie.Joined.end g = g
+joined-append (lie.Joined.then e h) g = lie.Joined.then e (joined-append h g)

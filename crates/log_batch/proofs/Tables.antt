@@ -14,7 +14,7 @@ use Rattle.log_batch.specs.Reading.{Answer, accepted, rejected}
 use Rattle.log_item.specs.Blank.{blankItem, blankEntry}
 use Rattle.log_batch.specs.Table.{emptyTable, tableOf}
 use Rattle.log_batch.specs.declared.LogItemBatch.{LogItemBatch}
-use Rattle.log_batch.proofs.Rows.{rows-length, rows-pad}
+use Rattle.log_batch.proofs.FilledRows.{rows-length, rows-pad}
 use Rattle.log_batch.proofs.Filling.{Filling}
 
 -- ---- a table by its parts

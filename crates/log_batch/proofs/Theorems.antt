@@ -53,7 +53,7 @@ use Rattle.log_batch.proofs.Accepts.{of-accepted}
 use Rattle.log_batch.proofs.Listing.{complete, sound, items-joined, items-indexed}
 use Rattle.log_batch.proofs.One.{one-spelled}
 use Rattle.log_batch.proofs.Bodies.{sound-body, complete-body, sound-plain, complete-plain}
-use Rattle.log_batch.proofs.Written.{written-spelled, written-kept, read-back, other-signature, table-small, buffer-written, buffer-read-back}
+use Rattle.log_batch.proofs.Spelled.{written-spelled, written-kept, read-back, other-signature, table-small, buffer-written, buffer-read-back}
 use Rattle.log_batch.proofs.ListWritten.{Encodes, writes, leaves, encodes}
 use Rattle.log_batch.specs.Front.{blockBytes, bodyOffset, batchEncoded}
 use Rattle.log_batch.proofs.Planning.{planned, verdict-of, refused-length}
@@ -61,7 +61,7 @@ use Rattle.log_batch.specs.Batch.{blockOf, bodyOf, readBatch}
 use Rattle.log_batch.specs.Examples.{AllRight, table}
 use Rattle.log_batch.specs.Written.{framed, frameOf, BatchWritten}
 use Rattle.list_measure.specs.declared.Measured.{Measured}
-use Rattle.log_batch.proofs.Framing.{list-sized, whole}
+use Rattle.log_batch.proofs.Written.{list-sized, whole}
 use Rattle.log_batch.proofs.Again.{content-size, block-again, body-again, content-again, front-again}
 use Rattle.log_batch.proofs.Whole.{body-read}
 

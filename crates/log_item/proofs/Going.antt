@@ -15,7 +15,7 @@ use Rattle.log_item.specs.declared.LogItem.{LogItem}
 use Rattle.log_item.specs.declared.LogItemContent.{LogItemContent}
 use Rattle.log_item.specs.declared.LogItemContent.the-variants as contents
 use Rattle.log_item.proofs.Holds.{Holds, holds, later, at-most, of-got}
-use Rattle.log_item.proofs.Parts.{entries-first, entries-no-count, head-done, head-no-content, head-no-type, head-refused}
+use Rattle.log_item.proofs.Reading.{entries-first, entries-no-count, head-done, head-no-content, head-no-type, head-refused}
 use Rattle.log_item.proofs.Passing.{passing, pass-end, item-rows, item-no-head}
 use Rattle.log_item.specs.Private.{passStated, passEntries, passContent}
 

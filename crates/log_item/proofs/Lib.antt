@@ -1,10 +1,9 @@
 pub mod Holds
-pub mod Smallest
+pub mod Pieces
 pub mod NumberGot
 pub mod Starts
 pub mod Every
-pub mod Fields
-pub mod Parts
+pub mod Reading
 pub mod Passing
 pub mod Going
 pub mod Short
@@ -18,7 +17,7 @@ pub mod Agree
 pub mod One
 pub mod Lengths
 pub mod Stores
-pub mod Pieces
+pub mod Bytes
 pub mod Tails
 pub mod Refusals
 pub mod Items

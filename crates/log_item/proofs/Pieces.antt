@@ -1,54 +1,72 @@
--- The bytes of a command, a key and a content, by their cases.
+-- What the readers of a number, a byte and a span come to: a law for each way out of the code.
 -- Assumes nothing.
-use Prim.Native.Nat.{ℕ, zero, suc}
-use mathlib.Core.Path.{_≡_}
-use mathlib.Core.List.{List, [], _∷_, _++_}
+use Prim.Native.Nat.{ℕ, _+_, _-_, _≤_, _<_}
+use mathlib.Core.Path.{_≡_, sym, ap, _∙_}
+use mathlib.Core.List.{List}
+use native.Mathlib.Omega.{arith}
+use borrow.Author.Tests.{lt-ltb, le-ltb, le-leb, lt-leb, eq-eqb, ne-eqb}
+use lib.ListN.{length, getD}
+use Rattle.numbers.specs.Number.{readNumber}
 use Rattle.numbers.specs.Shortest.{shortest}
-use Rattle.log_item.specs.Entries.{typeOf}
-use Rattle.log_item.specs.declared.Span.{Span}
-use Rattle.log_item.specs.declared.Command.{Command}
-use Rattle.log_item.specs.declared.Command.the-variants.{Clean, Compact}
-use Rattle.log_item.specs.declared.Op.{Op}
-use Rattle.log_item.specs.declared.Op.the-variants.{Put, Del}
-use Rattle.log_item.specs.declared.EntryIndexes.{EntryIndexes}
-use Rattle.log_item.specs.declared.KeyValue.{KeyValue}
-use Rattle.log_item.specs.declared.LogItemContent.{LogItemContent}
-use Rattle.log_item.specs.declared.LogItemContent.the-variants as contents
-use Rattle.log_item.specs.Bytes.{spanBytes, commandBytes, opBytes, entriesBytes, contentBytes}
-use Rattle.log_item.specs.Private.{Room}
-use Rattle.log_item.proofs.Stores.{room-first}
+use Rattle.numbers.specs.declared.NumberRead.{NumberRead}
+use Rattle.numbers.specs.declared.NumberRead.the-variants.{Done}
+use Rattle.numbers.proofs.Theorems.{read-moves}
+use Rattle.log_item.specs.Got.{got, refused}
+use Rattle.log_item.specs.Pieces.{numberGot, byte, number, span}
+use Rattle.log_item.specs.declared.Form.{Form}
+use Rattle.log_item.specs.declared.Form.the-variants.{Any, Plain}
 
-pub clean-bytes : {c : Command} → c ≡ Clean → commandBytes c ≡ 1 ∷ []
-unfolding commandBytes
-clean-bytes p = rw p
+-- What a call's result r, known to be d, says of what the call promised.
+pub learnt : {R A : Type 0} (f : R → A) {r d : R} {m : A} → f r ≡ m → r ≡ d → m ≡ f d
+learnt f e k = sym e ∙ ap f k
 
-pub compact-bytes : {c : Command} {i : ℕ} → c ≡ Compact i → commandBytes c ≡ 2 ∷ shortest i
-unfolding commandBytes
-compact-bytes p = rw p
+-- ---- a byte
 
-pub entries-room : (n i : ℕ) {out : List ℕ} {at : ℕ} → Room out at (entriesBytes n i) → Room out at (shortest n)
-unfolding entriesBytes
-entries-room zero i h = h
-entries-room (suc n) i h = room-first (shortest (suc n)) (shortest i) h
+pub byte-in : (s : List ℕ) (p b : ℕ) → p < length s → b ≡ getD s p 0 → got b (p + 1) ≡ byte s p
+unfolding byte
+byte-in s p b h e = rw (lt-ltb _ _ h, e)
 
-module _ (s : List ℕ) where
-  pub put-bytes : (key : Span) {o : Op} {v : Span} → o ≡ Put v → opBytes s key o ≡ 1 ∷ (spanBytes s key ++ spanBytes s v)
-  unfolding opBytes
-  put-bytes key p = rw p
+pub byte-out : (s : List ℕ) (p : ℕ) → length s ≤ p → refused 7 ≡ byte s p
+unfolding byte
+byte-out s p h = rw (le-ltb _ _ h)
 
-  pub delete-bytes : (key : Span) {o : Op} → o ≡ Del → opBytes s key o ≡ 2 ∷ spanBytes s key
-  unfolding opBytes
-  delete-bytes key p = rw p
+-- ---- a number
 
-  module _ {k : LogItemContent} where
-    pub entries-bytes : {e : EntryIndexes} → k ≡ contents.EntryIndexes e → typeOf k ∷ contentBytes s k ≡ 1 ∷ entriesBytes (e .count) (e .«first_index»)
-    unfolding contentBytes
-    entries-bytes p = rw p
+module _ {form : Form} (s : List ℕ) (p : ℕ) where
+  pub number-any : {n q : ℕ} → form ≡ Any → readNumber s p ≡ Done n q → got n q ≡ number form s p
+  unfolding number
+  number-any f e = rw (f, e)
 
-    pub command-bytes : {c : Command} → k ≡ contents.Command c → typeOf k ∷ contentBytes s k ≡ 2 ∷ commandBytes c
-    unfolding contentBytes
-    command-bytes p = rw p
+  pub number-plain : {n q l : ℕ} → form ≡ Plain → readNumber s p ≡ Done n q → l ≡ length (shortest n) → q - p ≡ l → got n q ≡ number form s p
+  unfolding number
+  number-plain {n} {q} {l} f e k d =
+      let m = read-moves s p n q e in
+      let same : q ≡ p + length (shortest n) = omega arith in
+      rw (f, e, eq-eqb _ _ same)
 
-    pub key-bytes : {v : KeyValue} → k ≡ contents.Kv v → typeOf k ∷ contentBytes s k ≡ 3 ∷ opBytes s (v .key) (v .op)
-    unfolding contentBytes
-    key-bytes p = rw p
+  pub number-padded : {n q l : ℕ} → form ≡ Plain → readNumber s p ≡ Done n q → l ≡ length (shortest n) → (q - p ≡ l → ⊥) → refused 8 ≡ number form s p
+  unfolding number
+  number-padded {n} {q} {l} f e k d =
+      let m = read-moves s p n q e in
+      let other : q ≡ p + length (shortest n) → ⊥ = λ same. d (omega arith) in
+      rw (f, e, ne-eqb _ _ other)
+
+pub number-broken : (form : Form) (s : List ℕ) (p : ℕ) {r : NumberRead} → readNumber s p ≡ r → numberGot r ≡ refused 7 → refused 7 ≡ number form s p
+unfolding number
+number-broken Any s p e k = rw (e, k)
+number-broken Plain s p e k = rw (e, k)
+
+-- ---- a span
+
+module _ (form : Form) (s : List ℕ) (p : ℕ) where
+  pub span-in : {n q : ℕ} → number form s p ≡ got n q → q + n ≤ length s → got (record { at = q; len = n }) (q + n) ≡ span form s p
+  unfolding span
+  span-in e h = rw (e, le-leb _ _ h)
+
+  pub span-outside : {n q : ℕ} → number form s p ≡ got n q → length s < q + n → refused 13 ≡ span form s p
+  unfolding span
+  span-outside e h = rw (e, lt-leb _ _ h)
+
+  pub span-refused : {r : ℕ} → number form s p ≡ refused r → refused r ≡ span form s p
+  unfolding span
+  span-refused e = rw e

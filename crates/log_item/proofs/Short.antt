@@ -11,7 +11,7 @@ use Rattle.log_item.specs.Got.{got}
 use Rattle.log_item.specs.Pieces.{number}
 use Rattle.log_item.specs.declared.Form.{Form}
 use Rattle.log_item.specs.declared.Form.the-variants.{Any}
-use Rattle.log_item.proofs.Smallest.{number-any}
+use Rattle.log_item.proofs.Pieces.{number-any}
 
 module _ {form : Form} (any : form ≡ Any) (s : List ℕ) (at a b : ℕ) (room : at + 2 < length s) (ea : a ≡ getD s at 0) (eb : b ≡ getD s (at + 1) 0) (more : 128 ≤ a) where
   pub two : b < 128 → got (a - 128 + (b * 2 ^ 7) % 2 ^ 64) (at + 2) ≡ number form s at

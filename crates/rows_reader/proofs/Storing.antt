@@ -29,10 +29,10 @@ use Rattle.item_row.specs.Row.{itemWords, entryWords, itemsWords, entriesWords}
 use Rattle.item_row.proofs.Words.{item-words-length, items-words-length, entries-words-length, flat-more}
 use Rattle.log_item.specs.Private.{Stored}
 use Rattle.log_item.proofs.Stores.{stored-none, stored-then, stored-length, stored-same}
-use Rattle.log_item.proofs.Smallest.{number-any, number-broken}
+use Rattle.log_item.proofs.Pieces.{number-any, number-broken}
 use Rattle.log_batch.specs.Reading.{Answer, accepted, rejected, readItems}
 use Rattle.log_batch.proofs.Checking.{count-broken, count-many}
-use Rattle.log_batch.proofs.Rows.{rows-take, rows-length}
+use Rattle.log_batch.proofs.FilledRows.{rows-take, rows-length}
 use Rattle.log_batch.proofs.Coming.{prepend, rest}
 use Rattle.log_batch.proofs.Filling.{Filling, not-done, begun, next-row, filling-row-refused, ended, next-item, filling-item-refused}
 use Rattle.rows_reader.specs.Lent.{Filled}

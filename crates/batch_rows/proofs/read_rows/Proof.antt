@@ -5,7 +5,7 @@ use Rattle.log_batch.proofs.Frames.{front-known}
 use native.Mathlib.Omega.{arith}
 use denote.Ref.{now}
 use Rattle.log_batch.specs.Header.{headerGot}
-use Rattle.log_item.proofs.Smallest.{learnt}
+use Rattle.log_item.proofs.Pieces.{learnt}
 use borrow.Author.Needs.{needs}
 use Rattle.batch_rows.proofs.read_rows.Statement.{statement}
 use Rattle.batch_rows.proofs.read_rows.Tie as tie

@@ -1,7 +1,7 @@
 -- `batch_rows::write_rows` meets its contract: the answer is decided first; behind header and block the body has room.
 -- Assumes nothing.
 use Rattle.log_batch.proofs.Fronts.{body-behind}
-use Rattle.log_batch.proofs.Framing.{batch-left, batch-stored}
+use Rattle.log_batch.proofs.Written.{batch-left, batch-stored}
 use Rattle.batch_rows.proofs.RowsWritten.{rows-small, rows-sized}
 use borrow.Author.Needs.{needs}
 use Rattle.batch_rows.proofs.write_rows.Statement.{statement}

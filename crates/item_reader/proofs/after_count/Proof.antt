@@ -1,7 +1,7 @@
 -- `item_reader::after_count` meets its contract.
 -- Assumes nothing.
 use Rattle.log_item.specs.Answers.{fieldGot}
-use Rattle.log_item.proofs.Smallest.{learnt}
+use Rattle.log_item.proofs.Pieces.{learnt}
 use Rattle.item_reader.proofs.OpenLaws.{count-read, no-count}
 use borrow.Author.Needs.{needs}
 use Rattle.item_reader.proofs.after_count.Statement.{statement}

@@ -5,7 +5,7 @@ use lib.Seq.{length-take-le}
 use native.Mathlib.Omega.{arith}
 use Rattle.log_item.specs.Answers.{tailGot}
 use Rattle.log_item.specs.declared.Form.the-variants.{Any}
-use Rattle.log_item.proofs.Smallest.{learnt}
+use Rattle.log_item.proofs.Pieces.{learnt}
 use Rattle.log_item.proofs.Known.{tail-known}
 use Rattle.item_reader.proofs.RowLaws.{row-end, row-next, row-refused}
 use borrow.Author.Needs.{needs}

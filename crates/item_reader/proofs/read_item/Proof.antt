@@ -1,7 +1,7 @@
 -- `item_reader::read_item` meets its contract: the head, and then the way over its tails.
 -- Assumes nothing.
 use Rattle.log_item.specs.Answers.{headGot, tailGot}
-use Rattle.log_item.proofs.Smallest.{learnt}
+use Rattle.log_item.proofs.Pieces.{learnt}
 use Rattle.log_item.proofs.Known.{head-room}
 use Rattle.item_reader.proofs.ItemLaws.{no-head, with-rows, no-tails}
 use native.Mathlib.Omega.{arith}

@@ -4,7 +4,7 @@ use mathlib.Core.Path.{sym}
 use lib.Seq.{length-take-le}
 use native.Mathlib.Omega.{arith}
 use Rattle.item_reader.specs.Private.{foundGot}
-use Rattle.log_item.proofs.Smallest.{learnt}
+use Rattle.log_item.proofs.Pieces.{learnt}
 use Rattle.item_reader.proofs.ItemLaws.{step-refused, step-end, step-over, step-broken}
 use borrow.Author.Needs.{needs}
 use Rattle.item_reader.proofs.step_at.Statement.{statement}

@@ -1,8 +1,8 @@
 -- `log_item::read_content` meets its contract.
 -- Assumes nothing.
 use Rattle.log_item.specs.Private.{entriesGot, commandGot, keyValueGot}
-use Rattle.log_item.proofs.Smallest.{learnt}
-use Rattle.log_item.proofs.Parts.{content-entries, content-no-entries, content-command, content-no-command, content-key, content-no-key, content-unknown}
+use Rattle.log_item.proofs.Pieces.{learnt}
+use Rattle.log_item.proofs.Reading.{content-entries, content-no-entries, content-command, content-no-command, content-key, content-no-key, content-unknown}
 use borrow.Author.Needs.{needs}
 use Rattle.log_item.proofs.read_content.Statement.{statement}
 use Rattle.log_item.proofs.read_content.Tie as tie

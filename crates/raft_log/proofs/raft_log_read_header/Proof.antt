@@ -2,7 +2,7 @@
 -- Assumes nothing.
 use Rattle.raft_log.specs.Answers.{headerReply}
 use Rattle.log_batch.specs.Header.{headerGot}
-use Rattle.log_item.proofs.Smallest.{learnt}
+use Rattle.log_item.proofs.Pieces.{learnt}
 use mathlib.Core.Path.{sym, ap}
 use borrow.Author.Needs.{needs}
 use Rattle.raft_log.proofs.raft_log_read_header.Statement.{statement}

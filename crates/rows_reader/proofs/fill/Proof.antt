@@ -4,7 +4,7 @@
 use Rattle.rows_reader.proofs.Storing.{Storing, not-broken, storing-start, items-as-long, entries-as-long, row-never, row-room, storing-row, stored-all, item-never, item-room, storing-item}
 use Rattle.rows_reader.specs.Private.{Fits}
 use Rattle.log_item.proofs.Known.{tail-known}
-use Rattle.log_item.proofs.Smallest.{learnt}
+use Rattle.log_item.proofs.Pieces.{learnt}
 use Rattle.log_item.specs.declared.Form.the-variants.{Any}
 use Rattle.log_item.specs.Answers.{headGot, tailGot}
 use mathlib.Core.List.{List}

@@ -1,6 +1,6 @@
 -- `log_batch::LogBatch::check_front` meets its contract.
 -- Assumes nothing.
-use Rattle.log_item.proofs.Smallest.{learnt}
+use Rattle.log_item.proofs.Pieces.{learnt}
 use Rattle.log_batch.specs.Header.{headerGot}
 use denote.Ref.{now}
 use Rattle.log_batch.proofs.Frames.{header-known, front-refused, front-short, front-compressed, front-broken, front-good}

@@ -1,6 +1,6 @@
 -- `log_batch::LogBatch::decode` meets its contract.
 -- Assumes nothing.
-use Rattle.log_item.proofs.Smallest.{learnt}
+use Rattle.log_item.proofs.Pieces.{learnt}
 use Rattle.log_batch.specs.Header.{headerGot}
 use denote.Ref.{now}
 use Rattle.log_batch.proofs.Frames.{front-known, table-refused, table-stays, table-differs, table-placed}

@@ -2,7 +2,7 @@
 -- Assumes nothing.
 use Rattle.log_batch.proofs.Planning.{body-small}
 use Rattle.log_batch.proofs.Fronts.{body-behind}
-use Rattle.log_batch.proofs.Framing.{list-sized, batch-left, batch-stored}
+use Rattle.log_batch.proofs.Written.{list-sized, batch-left, batch-stored}
 use borrow.Author.Needs.{needs}
 use Rattle.log_batch.proofs.LogBatch.encode.Statement.{statement}
 use Rattle.log_batch.proofs.LogBatch.encode.Tie as tie

@@ -5,7 +5,7 @@ use Prim.Native.Nat.{_+_, _-_, _*_}
 use mathlib.Core.Path.{_≡_, refl, sym}
 use Rattle.log_item.specs.Answers.{headGot, tailGot}
 use Rattle.log_item.specs.declared.Form.the-variants.{Any}
-use Rattle.log_item.proofs.Smallest.{learnt, number-any, number-broken}
+use Rattle.log_item.proofs.Pieces.{learnt, number-any, number-broken}
 use Rattle.log_batch.proofs.Checking.{count-broken, count-many}
 use Rattle.log_item.proofs.Known.{tail-known, head-room}
 use Rattle.log_batch.proofs.Filling.{Filling, not-done, begun, next-row, filling-row-refused, ended, next-item, filling-item-refused}

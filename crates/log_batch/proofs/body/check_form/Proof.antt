@@ -2,7 +2,7 @@
 -- Assumes nothing.
 use mathlib.Core.Path.{sym, ap, _∙_}
 use Rattle.log_item.specs.Answers.{fieldGot}
-use Rattle.log_item.proofs.Smallest.{learnt}
+use Rattle.log_item.proofs.Pieces.{learnt}
 use Rattle.log_batch.specs.Answers.{checkOf}
 use Rattle.log_batch.proofs.Checking.{count-broken, count-many, count-good}
 use borrow.Author.Needs.{needs}

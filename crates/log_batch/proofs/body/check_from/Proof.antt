@@ -2,7 +2,7 @@
 -- Assumes nothing.
 use Prim.Native.Nat.{_-_}
 use Rattle.log_item.specs.Answers.{passedGot}
-use Rattle.log_item.proofs.Smallest.{learnt}
+use Rattle.log_item.proofs.Pieces.{learnt}
 use Rattle.log_batch.proofs.Checking.{ItemsLeft, left-start, left-next, left-refused, left-end}
 use borrow.Author.Needs.{needs}
 use Rattle.log_batch.proofs.body.check_from.Statement.{statement}

@@ -1,8 +1,8 @@
 -- `log_item::Command::decode` meets its contract.
 -- Assumes nothing.
 use Rattle.log_item.specs.Answers.{fieldGot}
-use Rattle.log_item.proofs.Smallest.{learnt}
-use Rattle.log_item.proofs.Fields.{command-clean, command-compact, command-short, command-unknown, command-refused}
+use Rattle.log_item.proofs.Pieces.{learnt}
+use Rattle.log_item.proofs.Reading.{command-clean, command-compact, command-short, command-unknown, command-refused}
 use borrow.Author.Needs.{needs}
 use Rattle.log_item.proofs.Command.decode.Statement.{statement}
 use Rattle.log_item.proofs.Command.decode.Tie as tie

@@ -2,8 +2,8 @@
 -- Assumes nothing.
 use Rattle.log_item.specs.Answers.{fieldGot}
 use mathlib.Core.Path.{_∙_}
-use Rattle.log_item.proofs.Smallest.{learnt}
-use Rattle.log_item.proofs.Parts.{entries-first, entries-no-count}
+use Rattle.log_item.proofs.Pieces.{learnt}
+use Rattle.log_item.proofs.Reading.{entries-first, entries-no-count}
 use borrow.Author.Needs.{needs}
 use Rattle.log_item.proofs.EntryIndexes.decode.Statement.{statement}
 use Rattle.log_item.proofs.EntryIndexes.decode.Tie as tie

@@ -1,8 +1,8 @@
 -- `log_item::EntryIndexes::decode_tail` meets its contract.
 -- Assumes nothing.
 use Rattle.log_item.specs.Answers.{fieldGot}
-use Rattle.log_item.proofs.Smallest.{learnt}
-use Rattle.log_item.proofs.Parts.{tail-large, tail-falls, tail-done, tail-refused}
+use Rattle.log_item.proofs.Pieces.{learnt}
+use Rattle.log_item.proofs.Reading.{tail-large, tail-falls, tail-done, tail-refused}
 use native.Mathlib.Omega.{arith}
 use borrow.Author.Needs.{needs}
 use Rattle.log_item.proofs.EntryIndexes.decode_tail.Statement.{statement}

@@ -2,8 +2,8 @@
 -- Assumes nothing.
 use Rattle.log_item.specs.Answers.{fieldGot, spanGot}
 use mathlib.Core.Path.{_∙_}
-use Rattle.log_item.proofs.Smallest.{learnt}
-use Rattle.log_item.proofs.Fields.{key-put, key-delete, key-short, key-unknown, key-refused}
+use Rattle.log_item.proofs.Pieces.{learnt}
+use Rattle.log_item.proofs.Reading.{key-put, key-delete, key-short, key-unknown, key-refused}
 use borrow.Author.Needs.{needs}
 use Rattle.log_item.proofs.KeyValue.decode.Statement.{statement}
 use Rattle.log_item.proofs.KeyValue.decode.Tie as tie

@@ -1,7 +1,7 @@
 -- `log_item::LogItem::decode` meets its contract.
 -- Assumes nothing.
 use Rattle.log_item.specs.Answers.{headGot, tailGot}
-use Rattle.log_item.proofs.Smallest.{learnt}
+use Rattle.log_item.proofs.Pieces.{learnt}
 use Rattle.log_item.proofs.Known.{head-room}
 use Rattle.log_item.proofs.Passing.{item-done, item-no-tails, item-no-head}
 use native.Mathlib.Omega.{arith}

@@ -2,8 +2,8 @@
 -- Assumes nothing.
 use Rattle.log_item.specs.Answers.{fieldGot}
 use Rattle.log_item.specs.Private.{contentGot}
-use Rattle.log_item.proofs.Smallest.{learnt}
-use Rattle.log_item.proofs.Parts.{head-done, head-no-content, head-no-type, head-refused}
+use Rattle.log_item.proofs.Pieces.{learnt}
+use Rattle.log_item.proofs.Reading.{head-done, head-no-content, head-no-type, head-refused}
 use borrow.Author.Needs.{needs}
 use Rattle.log_item.proofs.LogItem.decode_head.Statement.{statement}
 use Rattle.log_item.proofs.LogItem.decode_head.Tie as tie

@@ -1,6 +1,6 @@
 -- `log_item::LogItem::entries` meets its contract.
 -- Assumes nothing.
-use Rattle.log_item.proofs.Parts.{entries-same}
+use Rattle.log_item.proofs.Reading.{entries-same}
 use borrow.Author.Needs.{needs}
 use Rattle.log_item.proofs.LogItem.entries.Statement.{statement}
 use Rattle.log_item.proofs.LogItem.entries.Tie as tie

@@ -2,7 +2,7 @@
 -- Assumes nothing.
 use mathlib.Core.Path.{_∙_}
 use Rattle.log_item.specs.Answers.{fieldGot}
-use Rattle.log_item.proofs.Smallest.{learnt}
+use Rattle.log_item.proofs.Pieces.{learnt}
 use Rattle.log_item.proofs.Going.{item-content, item-no-type, item-no-group}
 use borrow.Author.Needs.{needs}
 use Rattle.log_item.proofs.LogItem.pass.Statement.{statement}

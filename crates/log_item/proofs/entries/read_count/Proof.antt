@@ -1,8 +1,8 @@
 -- `log_item::entries::read_count` meets its contract.
 -- Assumes nothing.
 use Rattle.log_item.specs.Answers.{fieldGot}
-use Rattle.log_item.proofs.Smallest.{learnt}
-use Rattle.log_item.proofs.Parts.{count-many, count-done, count-refused}
+use Rattle.log_item.proofs.Pieces.{learnt}
+use Rattle.log_item.proofs.Reading.{count-many, count-done, count-refused}
 use native.Mathlib.Omega.{arith}
 use borrow.Author.Needs.{needs}
 use Rattle.log_item.proofs.entries.read_count.Statement.{statement}

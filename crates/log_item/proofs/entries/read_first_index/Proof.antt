@@ -1,8 +1,8 @@
 -- `log_item::entries::read_first_index` meets its contract.
 -- Assumes nothing.
 use Rattle.log_item.specs.Answers.{fieldGot}
-use Rattle.log_item.proofs.Smallest.{learnt}
-use Rattle.log_item.proofs.Parts.{first-none, first-done, first-too-large, first-refused}
+use Rattle.log_item.proofs.Pieces.{learnt}
+use Rattle.log_item.proofs.Reading.{first-none, first-done, first-too-large, first-refused}
 use native.Mathlib.Omega.{arith}
 use borrow.Author.Needs.{needs}
 use Rattle.log_item.proofs.entries.read_first_index.Statement.{statement}

@@ -1,8 +1,8 @@
 -- `log_item::keys::read_put` meets its contract.
 -- Assumes nothing.
 use Rattle.log_item.specs.Answers.{spanGot}
-use Rattle.log_item.proofs.Smallest.{learnt}
-use Rattle.log_item.proofs.Fields.{put-done, put-short, put-refused}
+use Rattle.log_item.proofs.Pieces.{learnt}
+use Rattle.log_item.proofs.Reading.{put-done, put-short, put-refused}
 use borrow.Author.Needs.{needs}
 use Rattle.log_item.proofs.keys.read_put.Statement.{statement}
 use Rattle.log_item.proofs.keys.read_put.Tie as tie

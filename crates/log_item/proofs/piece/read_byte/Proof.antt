@@ -1,6 +1,6 @@
 -- `log_item::piece::read_byte` meets its contract.
 -- Assumes nothing.
-use Rattle.log_item.proofs.Smallest.{byte-in, byte-out}
+use Rattle.log_item.proofs.Pieces.{byte-in, byte-out}
 use native.Mathlib.Omega.{arith}
 use borrow.Author.Needs.{needs}
 use Rattle.log_item.proofs.piece.read_byte.Statement.{statement}

@@ -2,7 +2,7 @@
 -- Assumes nothing.
 use mathlib.Core.Path.{refl}
 use Rattle.numbers.proofs.Theorems.{read-moves}
-use Rattle.log_item.proofs.Smallest.{learnt, number-any, number-plain, number-padded, number-broken}
+use Rattle.log_item.proofs.Pieces.{learnt, number-any, number-plain, number-padded, number-broken}
 use native.Mathlib.Omega.{arith}
 use borrow.Author.Needs.{needs}
 use Rattle.log_item.proofs.piece.read_number.Statement.{statement}

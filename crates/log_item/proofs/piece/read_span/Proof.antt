@@ -1,7 +1,7 @@
 -- `log_item::piece::read_span` meets its contract.
 -- Assumes nothing.
 use Rattle.log_item.specs.Answers.{fieldGot}
-use Rattle.log_item.proofs.Smallest.{learnt, span-in, span-outside, span-refused}
+use Rattle.log_item.proofs.Pieces.{learnt, span-in, span-outside, span-refused}
 use Rattle.log_item.proofs.NumberGot.{number-inside}
 use native.Mathlib.Omega.{arith}
 use borrow.Author.Needs.{needs}

@@ -1,7 +1,7 @@
 -- `log_item::writing::put_command` meets its contract.
 -- Assumes nothing.
 use Rattle.log_item.proofs.Stores.{room-first, room-same, room-then, stored-at, stored-same, stored-then}
-use Rattle.log_item.proofs.Pieces.{clean-bytes, compact-bytes}
+use Rattle.log_item.proofs.Bytes.{clean-bytes, compact-bytes}
 use mathlib.Core.List.{[], _∷_}
 use borrow.Author.Needs.{needs}
 use Rattle.log_item.proofs.writing.put_command.Statement.{statement}

@@ -1,7 +1,7 @@
 -- `log_item::writing::put_content` meets its contract.
 -- Assumes nothing.
 use Rattle.log_item.proofs.Stores.{room-same, room-then, stored-same, stored-then}
-use Rattle.log_item.proofs.Pieces.{entries-bytes, command-bytes, key-bytes}
+use Rattle.log_item.proofs.Bytes.{entries-bytes, command-bytes, key-bytes}
 use Rattle.log_item.proofs.Refusals.{content-key-inside}
 use borrow.Author.Needs.{needs}
 use Rattle.log_item.proofs.writing.put_content.Statement.{statement}

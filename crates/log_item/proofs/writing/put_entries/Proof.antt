@@ -2,7 +2,7 @@
 -- Assumes nothing.
 use Rattle.log_item.proofs.Stores.{room-same, room-then, stored-at, stored-same, stored-then}
 use Rattle.log_item.proofs.Lengths.{entries-none, entries-some}
-use Rattle.log_item.proofs.Pieces.{entries-room}
+use Rattle.log_item.proofs.Bytes.{entries-room}
 use borrow.Author.Needs.{needs}
 use Rattle.log_item.proofs.writing.put_entries.Statement.{statement}
 use Rattle.log_item.proofs.writing.put_entries.Tie as tie

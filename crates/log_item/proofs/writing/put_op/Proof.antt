@@ -1,7 +1,7 @@
 -- `log_item::writing::put_op` meets its contract.
 -- Assumes nothing.
 use Rattle.log_item.proofs.Stores.{room-first, room-same, room-then, stored-same, stored-then}
-use Rattle.log_item.proofs.Pieces.{put-bytes, delete-bytes}
+use Rattle.log_item.proofs.Bytes.{put-bytes, delete-bytes}
 use Rattle.log_item.proofs.Refusals.{put-both, delete-one}
 use mathlib.Core.List.{[], _∷_}
 use borrow.Author.Needs.{needs}
