@@ -124,16 +124,17 @@ module _ (m : Measured) (all at : ℕ) where
     pub placing-fits : at + m .length ≤ all → encoded 0 0 (m .length) ≡ encodedIn m all at
     placing-fits l = rw (ne-eqb (m .length) 0 h, le-leb (at + m .length) all l)
 
+-- An answer of some length is none of length 0.
+pub some-length : {r : Encoded} → (r .length ≡ 0 → ⊥) → {n i : ℕ} → r ≡ encoded n i 0 → ⊥
+some-length h e = h (ap (λ (x : Encoded). x .length) e)
+
 -- A length that is not 0 is the measure's, and the body fits.
 pub placing-told : {told m : Measured} → m ≡ told → (all at : ℕ) {r : Encoded} → r ≡ encodedIn m all at → (r .length ≡ 0 → ⊥)
     → (m .length ≡ 0 → ⊥) × (at + m .length ≤ all) × (r .length ≡ m .length)
 placing-told {told} {m} same all at {r} e h =
-    let a = not-first (eqb (m .length) 0) e none in
-    let b = not-second (leb (at + m .length) all) (a .1) none in
+    let a = not-first (eqb (m .length) 0) e (some-length h) in
+    let b = not-second (leb (at + m .length) all) (a .1) (some-length h) in
     (eqb-false (m .length) 0 (a .0), leb-true _ _ (b .0), ap (λ (x : Encoded). x .length) (b .1))
-  where
-    none : {n i : ℕ} → r ≡ encoded n i 0 → ⊥
-    none e = h (ap (λ (x : Encoded). x .length) e)
 
 -- ---- the ways out
 

@@ -23,6 +23,7 @@ use Rattle.list_measure.specs.Answers.{measureOf}
 use Rattle.list_measure.proofs.Measuring.{Measures, sized, unsized, measures, sized-where}
 use Rattle.list_writer.specs.Bytes.{footed}
 use Rattle.list_writer.specs.Answers.{encoded}
+use Rattle.list_writer.proofs.Bodies.{some-length}
 use Rattle.log_batch.specs.Front.{blockBytes, bodyOffset, headerBytes, frontBytes, batchEncoded}
 
 -- ---- lengths
@@ -127,11 +128,11 @@ pub planned : (m : Measured) (items : ℕ) (content : List ℕ) (room : ℕ) {r 
 unfolding batchEncoded
 planned m items content room {r} told h =
     let size : ℕ = bodyOffset content + m .length in
-    let a = not-first (eqb items 0 && eqb (length content) 0) told none in
-    let b = not-first (eqb (m .length) 0) (a .1) none in
-    let c = not-first (ltb 2147483647 (m .total)) (b .1) none in
-    let d = not-second (eqb (m .total) (length content)) (c .1) none in
-    let e = not-second (leb size room) (d .1) none in
+    let a = not-first (eqb items 0 && eqb (length content) 0) told (some-length h) in
+    let b = not-first (eqb (m .length) 0) (a .1) (some-length h) in
+    let c = not-first (ltb 2147483647 (m .total)) (b .1) (some-length h) in
+    let d = not-second (eqb (m .total) (length content)) (c .1) (some-length h) in
+    let e = not-second (leb size room) (d .1) (some-length h) in
     let long : r .length ≡ size = ap (λ (x : Encoded). x .length) (e .1) in
     let few = ltb-false 2147483647 (m .total) (c .0) in
     let same = eqb-true (m .total) (length content) (d .0) in
@@ -143,9 +144,6 @@ planned m items content room {r} told h =
       size = long;
       fits = omega (arith, leb-true size room (e .0));
     }
-  where
-    none : {n i : ℕ} → r ≡ encoded n i 0 → ⊥
-    none e = h (ap (λ (x : Encoded). x .length) e)
 
 -- An answer that refuses has no length.
 pub refused-length : (m : Measured) (items : ℕ) (content : List ℕ) (room : ℕ) {r : Encoded} → r ≡ batchEncoded m items content room → (r .number ≡ 0 → ⊥)

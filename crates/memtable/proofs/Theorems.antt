@@ -175,11 +175,11 @@ module _ (rows : List Location) (t : Table) (incoming : List Location) (first : 
 
 -- "Rewriting exactly a fetched run, incoming rows in the rewrite queue, under the same gate raises the count by its length, and the next fetch under that gate is empty."
 module _ (rows : List Location) (t : Table) (gate : ℕ) (incoming : List Location) (formed : wellFormed rows t ≡ true) (new : all inRewrite incoming ≡ true) (exact : length incoming ≡ fetchOf rows t gate .len) where
+  is : (fetchOf rows t gate .place ≡ t .count) × (fetchOf rows t gate .len ≡ runOf (Stop.Above gate) (drop (t .count) rows))
+  is = fetched-formed rows t gate formed
+
   pub fetched-rewritten : rewriteOf rows t incoming (fetchedAt rows t gate) (Gate.Given gate) ≡ record { number = 0; replaced = fetchOf rows t gate .len; count = t .count + fetchOf rows t gate .len }
   fetched-rewritten = rw (is .0, is .1) (whole-run rows t gate incoming formed new (exact ∙ is .1))
-    where
-      is : (fetchOf rows t gate .place ≡ t .count) × (fetchOf rows t gate .len ≡ runOf (Stop.Above gate) (drop (t .count) rows))
-      is = fetched-formed rows t gate formed
 
   pub fetched-next : fetchOf (rowsAfter rows t incoming (fetchedAt rows t gate) (Gate.Given gate)) (newTable rows t incoming (fetchedAt rows t gate) (Gate.Given gate)) gate ≡ record { number = 0; place = t .count + fetchOf rows t gate .len; len = 0 }
   fetched-next = fetched-is later-rows later-table gate (formed-stays rows t incoming (fetchedAt rows t gate) (Gate.Given gate) formed) ∙ next (later-table .count) (runOf (Stop.Above gate) (drop (later-table .count) later-rows)) raised empty
@@ -192,9 +192,6 @@ module _ (rows : List Location) (t : Table) (gate : ℕ) (incoming : List Locati
 
       long : ℕ
       long = fetchOf rows t gate .len
-
-      is : (fetchOf rows t gate .place ≡ t .count) × (long ≡ runOf (Stop.Above gate) (drop (t .count) rows))
-      is = fetched-formed rows t gate formed
 
       raised : later-table .count ≡ t .count + long
       raised = ap (λ (r : Rewritten). r .count) fetched-rewritten
