@@ -13,7 +13,7 @@ use lib.Pow.{pow-add, pow-mono, pow-pos}
 use borrow.Author.Tests.{lt-ltb, le-ltb, ltb-true, ltb-false}
 use Rattle.numbers.specs.Spelling.{Groups, last, more}
 use Rattle.numbers.specs.Shortest.{spell, shortest}
-use Rattle.numbers.proofs.Spelled.{groups-pos}
+use Rattle.numbers.proofs.Spelled.{SpellsIn, groups-pos}
 
 spell-zero : (n : ℕ) → spell zero n ≡ n ∷ []
 unfolding spell
@@ -54,19 +54,14 @@ digit′ m =
 pub fewer : (room n : ℕ) → n < 2 ^ (1 + 7 * suc room) → n / 128 < 2 ^ (1 + 7 * room)
 fewer room n h = omega (arith, digit′ room)
 
--- The shortest spelling, with what `Spells` asks at ten bytes.
-pub record Good (room n : ℕ) (bs : List ℕ) : Type 0 where
-  pub groups : Groups n bs
-  pub few : length bs ≤ suc room
-  pub tenth : getD bs room 0 ≤ 1
-
-pub spell-good : (room n : ℕ) → n < 2 ^ (1 + 7 * room) → Good room n (spell room n)
+-- The shortest spelling is one.
+pub spell-good : (room n : ℕ) → n < 2 ^ (1 + 7 * room) → SpellsIn room n (spell room n)
 spell-good zero n h =
     let t : n < 128 = omega arith in
     rw (spell-one zero n t) (record { groups = last t; few = omega arith; tenth = omega arith })
 spell-good (suc room) n h = go (spell-good room (n / 128) (fewer room n h)) (size n)
   where
-    go : Good room (n / 128) (spell room (n / 128)) → Size n → Good (suc room) n (spell (suc room) n)
+    go : SpellsIn room (n / 128) (spell room (n / 128)) → Size n → SpellsIn (suc room) n (spell (suc room) n)
     go ih (small t) = rw (spell-one (suc room) n t) (record { groups = last t; few = omega arith; tenth = zero-le })
     go ih (large t) =
         let value : 128 + n % 128 - 128 + 128 * (n / 128) ≡ n = omega arith in

@@ -12,8 +12,17 @@ use lib.ListN.{length, getD}
 use borrow.Author.Tests.{lt-ltb, le-ltb, le-leb, ltb-true, ltb-false, leb-true}
 use Rattle.numbers.specs.declared.NumberRead.{NumberRead}
 use Rattle.numbers.specs.declared.NumberRead.the-variants.{Done, Eof, Overflow}
-use Rattle.numbers.specs.Spelling.{Groups, last, more}
+use Rattle.numbers.specs.Spelling.{Groups, last, more, SpellsNumber}
 use Rattle.numbers.specs.Number.{under, readFrom}
+
+-- What `SpellsNumber` asks, with room for any number of bytes behind the first in the place of nine.
+pub record SpellsIn (room n : ℕ) (bs : List ℕ) : Type 0 where
+  pub groups : Groups n bs
+  pub few : length bs ≤ suc room
+  pub tenth : getD bs room 0 ≤ 1
+
+pub as-number : {n : ℕ} {bs : List ℕ} → SpellsIn 9 n bs → SpellsNumber n bs
+as-number h = record { groups = h .groups; few = h .few; tenth = h .tenth }
 
 -- What is spelled is read, whatever follows.
 pub read-groups : (room : ℕ) {n : ℕ} {bs : List ℕ} → Groups n bs → length bs ≤ suc room → getD bs room 0 ≤ 1 → (rest : List ℕ) (p : ℕ)
@@ -30,9 +39,7 @@ read-groups (suc room) (more {b} {n} {bs} h g) few tenth rest p =
 pub record Head (room : ℕ) (l : List ℕ) (p n next : ℕ) : Type 0 where
   pub bytes : List ℕ
   pub rest : List ℕ
-  pub groups : Groups n bytes
-  pub few : length bytes ≤ suc room
-  pub tenth : getD bytes room 0 ≤ 1
+  pub spells : SpellsIn room n bytes
   pub parts : l ≡ bytes ++ rest
   pub after : next ≡ p + length bytes
 
@@ -44,9 +51,7 @@ one room b bs p n next h t e =
     record {
       bytes = b ∷ [];
       rest = bs;
-      groups = subst (λ (x : ℕ). Groups x (b ∷ [])) en (last h);
-      few = omega arith;
-      tenth = t;
+      spells = record { groups = subst (λ (x : ℕ). Groups x (b ∷ [])) en (last h); few = omega arith; tenth = t };
       parts = refl;
       after = sym ep ∙ sym (add-one p);
     }
@@ -60,9 +65,12 @@ next-one room b bs p n next m q h g e =
     record {
       bytes = b ∷ g .bytes;
       rest = g .rest;
-      groups = subst (λ (x : ℕ). Groups x (b ∷ g .bytes)) en (more h (g .groups));
-      few = suc-le-suc (g .few);
-      tenth = g .tenth;
+      spells =
+          record {
+            groups = subst (λ (x : ℕ). Groups x (b ∷ g .bytes)) en (more h (g .spells .groups));
+            few = suc-le-suc (g .spells .few);
+            tenth = g .spells .tenth;
+          };
       parts = ap {B = List ℕ} (λ r. b ∷ r) (g .parts);
       after = omega arith;
     }

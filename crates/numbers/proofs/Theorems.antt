@@ -18,7 +18,7 @@ use Rattle.numbers.specs.declared.NumberRead.the-variants.{Done}
 use Rattle.numbers.specs.Spelling.{SpellsNumber, Stands}
 use Rattle.numbers.specs.Number.{readNumber, readFrom}
 use Rattle.numbers.specs.Shortest.{shortest, statedLength}
-use Rattle.numbers.proofs.Spelled.{read-groups, read-head, groups-pos}
+use Rattle.numbers.proofs.Spelled.{as-number, read-groups, read-head, groups-pos}
 use Rattle.numbers.proofs.Shortest.{digit, spell-good, spell-digits, spell-least, spell-only, groups-fit, below-pow}
 
 -- A number is read at a place exactly when some spelling of it stands there; the next place is where the spelling ends.
@@ -32,7 +32,7 @@ read-iff-stands s at n next = (to, from)
         record {
           bytes = h .bytes;
           rest = h .rest;
-          spells = record { groups = h .groups; few = h .few; tenth = h .tenth };
+          spells = as-number (h .spells);
           there = h .parts;
           after = h .after;
         }
@@ -63,7 +63,7 @@ read-moves s at n next e =
 -- The shortest form of a 64-bit number spells it.
 pub shortest-spells : (n : ℕ) → n < 2 ^ 64 → SpellsNumber n (shortest n)
 unfolding shortest
-shortest-spells n h = let g = spell-good 9 n h in record { groups = g .groups; few = g .few; tenth = g .tenth }
+shortest-spells n h = as-number (spell-good 9 n h)
 
 -- No spelling of the number in bytes is shorter.
 pub none-shorter : {n : ℕ} {bs : List ℕ} → SpellsNumber n bs → Bytes bs → length (shortest n) ≤ length bs
