@@ -25,11 +25,12 @@ use Rattle.item_reader.specs.declared.Next.the-variants as next
 use Rattle.item_reader.specs.declared.RowRead.the-variants as row
 use Rattle.item_reader.specs.declared.Step.{Step}
 use Rattle.item_reader.specs.Rows.{nextRow}
-use Rattle.item_reader.specs.Steps.{rowsStanding, foundAt, stayed}
+use Rattle.log_item.specs.Answers.{countedItem}
+use Rattle.item_reader.specs.Steps.{rowsStanding, stayed}
 use Rattle.item_reader.specs.Reader.{stepFrom, moved, afterCall, afterCalls, nthOf}
 use Rattle.item_reader.specs.Stepping.{GoesThrough, StepsThrough}
 use Rattle.item_reader.specs.Stepping as go
-use Rattle.item_reader.proofs.ItemLaws.{by-tails, step-refused, step-end, step-over}
+use Rattle.item_reader.proofs.ItemLaws.{step-refused, step-end, step-over}
 
 -- ---- rows
 
@@ -102,12 +103,13 @@ module _ (r : ItemReader) (none : r .refusal .number ≡ 0) (more : r .item < r 
 
   -- A step over an item whose head and tails are read.
   steps-over : stepFrom r ≡ record { at = z; total = o .1; used = r .used + length (o .0); item = r .item + 1; answer = next.Item x rows }
+  unfolding countedItem
   steps-over =
       sym (step-over (now (r .body)) (r .at) (r .total) (r .used) (r .item) (r .count) (r .refusal) none more refl
-      {f = record { item = x; rows = rows; total = o .1; used = r .used + length (o .0) }} {q = z} found)
+      {f = record { item = x; tailsAt = q; total = o .1; used = r .used + length (o .0) }} {q = z} found refl)
     where
-      found : foundAt s (r .used) (r .total) (r .at) ≡ got (record { item = x; rows = rows; total = o .1; used = r .used + length (o .0) }) z
-      found = rw (by-tails s (r .used) (r .total) (r .at) h refl, e)
+      found : countedItem Any s (r .used) (r .total) (r .at) ≡ got (record { item = x; tailsAt = q; total = o .1; used = r .used + length (o .0) }) z
+      found = rw (h, e)
 
   -- It hands out the item, whose rows are those of its tails, and then what the reader hands out after it.
   pub steps-item : {xs : List LogItem} {all : List EntryIndex} → StepsThrough (beyond r z (o .1) (r .used + length (o .0))) xs all → StepsThrough r (x ∷ xs) (o .0 ++ all)

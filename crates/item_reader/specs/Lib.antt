@@ -2,4 +2,3 @@ pub mod Rows
 pub mod Steps
 pub mod Reader
 pub mod Stepping
-pub mod Private

@@ -7,8 +7,7 @@
 ghost use mathlib.Core.Path.{_≡_};
 ghost use Rattle.log_batch.specs.Seal.{sealedPart};
 ghost use Rattle.item_reader.specs.Rows.{nextRow};
-ghost use Rattle.item_reader.specs.Steps.{rowsStanding, foundAt, stayed, stepOf};
-ghost use Rattle.item_reader.specs.Private.{foundGot};
+ghost use Rattle.item_reader.specs.Steps.{handedOut, stayed, stepOf};
 ghost use Rattle.item_reader.specs.Reader.{afterCount, openingOf, opened, stepFrom, afterCall, nthOf};
 use log_batch::BodyCheck;
 use log_batch::content_len;
@@ -16,7 +15,7 @@ use log_item::EntryIndex;
 use log_item::EntryIndexes;
 use log_item::Field;
 use log_item::Form;
-use log_item::HeadRead;
+use log_item::ItemRead;
 use log_item::LogItem;
 use log_item::TailRead;
 use refusal::Refusal;
@@ -72,18 +71,6 @@ struct Step {
     used: usize,
     item: usize,
     answer: Next,
-}
-
-// An item, where its rows stand, the place after it, and the total and the number of entries after it; or why it is refused.
-enum Stepped {
-    Done {
-        item: LogItem,
-        rows: EntryRows,
-        next: usize,
-        total: u32,
-        used: usize,
-    },
-    Refused(u32),
 }
 
 impl<'a> ItemReader<'a> {
@@ -219,10 +206,10 @@ fn step_at(
         return stay(at, total, used, item, Next::End);
     }
     let n = content_len(body.len());
-    match read_item(&body[..n], at, total, used) {
-        Stepped::Done {
+    match LogItem::decode(&body[..n], at, total, used) {
+        ItemRead::Done {
             item: found,
-            rows,
+            tails,
             next: end,
             total: after,
             used: entries,
@@ -231,9 +218,9 @@ fn step_at(
             total: after,
             used: entries,
             item: item + 1,
-            answer: Next::Item { item: found, rows },
+            answer: handed_out(found, tails, total),
         },
-        Stepped::Refused(number) => {
+        ItemRead::Refused(number) => {
             let why = Refusal { number, item };
             stay(at, total, used, item, Next::Refused(why))
         }
@@ -253,39 +240,19 @@ fn stay(at: usize, total: u32, used: usize, item: usize, answer: Next) -> Step
     }
 }
 
-// The item at a place, with `total` bytes of entries and `used` entries before it in the body.
-fn read_item(buf: &[u8], at: usize, total: u32, used: usize) -> Stepped
-    ensures { λ r. ⌜ foundGot r ≡ foundAt (now (buf .entry)) used total at ⌝ }
+// An item, and where its rows stand: its tails begin at a place, with the total before them.
+fn handed_out(item: LogItem, tails: usize, total: u32) -> Next
+    ensures { λ r. ⌜ r ≡ handedOut item tails total ⌝ }
 {
-    match LogItem::decode_head(buf, at, used, Form::Any) {
-        HeadRead::Done { item, next: tails } => {
-            let entries = item.entries();
-            let count = entries.count;
-            let rows = rows_of(entries, tails, total);
-            match log_item::skip_tails(buf, tails, count, total, Form::Any) {
-                TailRead::Done { total: after, next } => Stepped::Done {
-                    item,
-                    rows,
-                    next,
-                    total: after,
-                    used: used + count,
-                },
-                TailRead::Refused(number) => Stepped::Refused(number),
-            }
-        }
-        HeadRead::Refused(number) => Stepped::Refused(number),
-    }
-}
-
-// The rows of an item, whose tails begin at a place, with the total before them.
-fn rows_of(entries: EntryIndexes, at: usize, total: u32) -> EntryRows
-    ensures { λ r. ⌜ r ≡ rowsStanding entries at total ⌝ }
-{
-    EntryRows {
-        at,
-        total,
-        index: entries.first_index,
-        left: entries.count,
+    let entries = item.entries();
+    Next::Item {
+        item,
+        rows: EntryRows {
+            at: tails,
+            total,
+            index: entries.first_index,
+            left: entries.count,
+        },
     }
 }
 

@@ -10,7 +10,7 @@ use lib.ListN.{length, length-append}
 use Rattle.log_item.specs.Got.{Got, got, refused, done, bind}
 use Rattle.log_item.specs.Reading.{Read, oneItem}
 use Rattle.log_item.specs.Pieces.{number}
-use Rattle.log_item.specs.Answers.{Counted, countedItem, passItem}
+use Rattle.log_item.specs.Answers.{passItem}
 use Rattle.refusal.specs.declared.Refusal.{Refusal}
 use Rattle.log_item.specs.declared.Form.{Form}
 use Rattle.log_item.specs.declared.Form.the-variants.{Plain}
@@ -23,6 +23,7 @@ use Rattle.log_batch.specs.declared.PlainForm.the-variants as plain
 use Rattle.log_batch.specs.Body.{readBody}
 use Rattle.log_batch.specs.Seal.{sealedPart}
 use Rattle.log_batch.specs.Answers.{checkOf, plainBody}
+use Rattle.log_item.proofs.Passing.{pass-one}
 use Rattle.log_batch.proofs.Bodies.{parts}
 
 -- ---- the item count
@@ -75,10 +76,10 @@ module _ (form : Form) (s : List ℕ) where
   heldPast k i (refused r) = Refused (record { number = r; item = i })
 
   held-past : (k i e t p : ℕ) → heldPast k i (passItem form s e t p) ≡ heldAfter i e (items form s (suc k) i e t p)
-  unfolding items passItem countedItem
-  held-past k i e t p = go (oneItem form s e t p)
+  unfolding items
+  held-past k i e t p = ap (heldPast k i) (pass-one form s e t p) ∙ go (oneItem form s e t p)
     where
-      go : (g : Got Read) → heldPast k i (bind {A = Counted} {B = ℕ × ℕ} (bind {A = Read} {B = Counted} g (λ r. done (record { item = r .item; total = r .total; used = e + length (r .rows) }))) (λ r. done (r .total, r .used)))
+      go : (g : Got Read) → heldPast k i (bind {A = Read} {B = ℕ × ℕ} g (λ r. done (r .total, e + length (r .rows))))
           ≡ heldAfter i e (inFront i g (λ r z. items form s k (i + 1) (e + length (r .rows)) (r .total) z))
       go (got r z) = sym (held-before i e (r .item) (r .rows) (items form s k (i + 1) (e + length (r .rows)) (r .total) z))
       go (refused r) = refl

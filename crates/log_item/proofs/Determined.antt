@@ -94,14 +94,15 @@ tail-same (tail.Refused r) (tail.Done x q) e = cc
 tail-same (tail.Refused r) (tail.Refused x) e = cc
 
 item-same : (a b : ItemRead) → itemGot a ≡ itemGot b → a ≡ b
-item-same (item.Done x q u n) (item.Done y z v m) e =
-    let p : _≡_ {A = Counted} (record { item = x; total = u; used = n }) (record { item = y; total = v; used = m }) = cc in
+item-same (item.Done x j q u n) (item.Done y l z v m) e =
+    let p : _≡_ {A = Counted} (record { item = x; tailsAt = j; total = u; used = n }) (record { item = y; tailsAt = l; total = v; used = m }) = cc in
     let i : x ≡ y = ap (λ (a : Counted). a .item) p in
+    let w : j ≡ l = ap (λ (a : Counted). a .tailsAt) p in
     let t : u ≡ v = ap (λ (a : Counted). a .total) p in
     let k : n ≡ m = ap (λ (a : Counted). a .used) p in
     cc
-item-same (item.Done x q u n) (item.Refused r) e = cc
-item-same (item.Refused r) (item.Done x q u n) e = cc
+item-same (item.Done x j q u n) (item.Refused r) e = cc
+item-same (item.Refused r) (item.Done x j q u n) e = cc
 item-same (item.Refused r) (item.Refused x) e = cc
 
 passed-same : (a b : Passed) → passedGot a ≡ passedGot b → a ≡ b

@@ -96,13 +96,13 @@ module _ (form : Form) (s : List ℕ) where
         item-content = go (content form s e b z) refl
           where
             -- the tails, with the item or without
-            by-tails : (x : LogItem) (n : ℕ) (m : Got ℕ)
-                → bind m (with n) ≡ bind {A = Counted} {B = ℕ × ℕ} (bind m (passing x n)) (λ r. done (r .total, r .used))
-            by-tails x n (got u y) = refl
-            by-tails x n (refused r) = refl
+            by-tails : (x : LogItem) (q n : ℕ) (m : Got ℕ)
+                → bind m (with n) ≡ bind {A = Counted} {B = ℕ × ℕ} (bind m (passing x q n)) (λ r. done (r .total, r .used))
+            by-tails x q n (got u y) = refl
+            by-tails x q n (refused r) = refl
 
             go : (m : Got LogItemContent) → content form s e b z ≡ m → bind m (λ c. passStated form s e t (entriesOf c)) ≡ passItem form s e t p
             go (got c y) k =
-                by-tails (record { «raft_group_id» = g; content = c }) (e + entriesOf c .count) (passTails form s (entriesOf c .count) t y)
+                by-tails (record { «raft_group_id» = g; content = c }) y (e + entriesOf c .count) (passTails form s (entriesOf c .count) t y)
                 ∙ ap (λ m. bind m (λ r. done (r .total, r .used))) (sym (item-rows form s e t p (sym (head-done form s e p f h k)) refl))
             go (refused r) k = no-head (head-no-content form s e p f h k)

@@ -9,7 +9,7 @@ use lib.ListN.{length}
 use Rattle.log_item.specs.Got.{Got, got, refused, Reading, done, bind}
 use Rattle.log_item.specs.Entries.{entriesOf, tailRow}
 use Rattle.log_item.specs.Reading.{Read, head, tail, tails, oneItem}
-use Rattle.log_item.specs.Answers.{Counted, countedItem, passTails}
+use Rattle.log_item.specs.Answers.{Counted, countedItem, passItem, passTails}
 use Rattle.log_item.specs.declared.Form.{Form}
 use Rattle.log_item.specs.declared.EntryIndex.{EntryIndex}
 use Rattle.log_item.specs.declared.EntryIndexes.{EntryIndexes}
@@ -21,9 +21,9 @@ abbrev pub totalOf : Got (List EntryIndex × ℕ) → Got ℕ
 totalOf (got r q) = got (r .1) q
 totalOf (refused r) = refused r
 
--- the item x, and n entries with it, where its rows are passed by
-abbrev pub passing : LogItem → ℕ → ℕ → Reading Counted
-passing x n u = done (record { item = x; total = u; used = n })
+-- the item x with its tails at q, and n entries with it, where its rows are passed by
+abbrev pub passing : LogItem → ℕ → ℕ → ℕ → Reading Counted
+passing x q n u = done (record { item = x; tailsAt = q; total = u; used = n })
 
 row-ahead : (x : EntryIndex) (g : Got (List EntryIndex × ℕ)) → totalOf (bind g (λ r. done (x ∷ r .0, r .1))) ≡ totalOf g
 row-ahead x (got r q) = refl
@@ -84,6 +84,27 @@ module _ (form : Form) (s : List ℕ) where
   pub as-many-rows : (n i t p : ℕ) {r : List EntryIndex × ℕ} {q : ℕ} → tails form s n i t p ≡ got r q → length (r .0) ≡ n
   as-many-rows n i t p e = of-got (rows-hold n i t p) e
 
+  -- Total and number are those of the item with its rows.
+  pub pass-one : (used t p : ℕ) → passItem form s used t p ≡ bind (oneItem form s used t p) (λ r. done (r .total, used + length (r .rows)))
+  unfolding passItem countedItem oneItem
+  pass-one used t p = by-head (head form s used p)
+    where
+      by-rows : (x : LogItem) (q : ℕ) (g : Got (List EntryIndex × ℕ))
+          → bind {A = Counted} {B = ℕ × ℕ} (bind g (λ r. done (record { item = x; tailsAt = q; total = r .1; used = used + length (r .0) }))) (λ r. done (r .total, r .used))
+          ≡ bind {A = Read} {B = ℕ × ℕ} (bind g (λ r. done (record { item = x; rows = r .0; total = r .1 }))) (λ r. done (r .total, used + length (r .rows)))
+      by-rows x q (got r z) = refl
+      by-rows x q (refused r) = refl
+
+      by-head : (m : Got LogItem)
+          → bind {A = Counted} {B = ℕ × ℕ}
+          (bind m (λ x q. bind (tails form s (entriesOf (x .content) .count) (entriesOf (x .content) .«first_index») t q) (λ r. done (record { item = x; tailsAt = q; total = r .1; used = used + length (r .0) }))))
+          (λ r. done (r .total, r .used))
+          ≡ bind {A = Read} {B = ℕ × ℕ}
+          (bind m (λ x q. bind (tails form s (entriesOf (x .content) .count) (entriesOf (x .content) .«first_index») t q) (λ r. done (record { item = x; rows = r .0; total = r .1 }))))
+          (λ r. done (r .total, used + length (r .rows)))
+      by-head (got x q) = by-rows x q (tails form s (entriesOf (x .content) .count) (entriesOf (x .content) .«first_index») t q)
+      by-head (refused r) = refl
+
   -- An item that was got is its head and the rows of its tails.
   pub item-got : (used t p : ℕ) {y : Read} {z : ℕ} → oneItem form s used t p ≡ got y z
       → (q : ℕ) × (head form s used p ≡ got (y .item) q)
@@ -104,28 +125,27 @@ module _ (form : Form) (s : List ℕ) where
 
   module _ (used t p : ℕ) where
     pub item-no-head : {r : ℕ} → head form s used p ≡ refused r → refused r ≡ countedItem form s used t p
-    unfolding countedItem oneItem
+    unfolding countedItem
     item-no-head e = rw e
 
     module _ {x : LogItem} {q : ℕ} (e : head form s used p ≡ got x q) {d : EntryIndexes} (k : d ≡ entriesOf (x .content)) where
       by-rows : (g : Got (List EntryIndex × ℕ)) → Holds (λ r z. length (r .0) ≡ d .count) g
-          → bind {A = Read} {B = Counted} (bind g (λ r. done (record { item = x; rows = r .0; total = r .1 })))
-          (λ r. done (record { item = r .item; total = r .total; used = used + length (r .rows) }))
-          ≡ bind (totalOf g) (passing x (used + d .count))
+          → bind g (λ r. done (record { item = x; tailsAt = q; total = r .1; used = used + length (r .0) }))
+          ≡ bind (totalOf g) (passing x q (used + d .count))
       by-rows (got r z) h = rw (only h)
       by-rows (refused r) h = refl
 
       -- Its rows, which are as many as it states, are passed by.
       pub item-rows : countedItem form s used t p
-          ≡ bind (passTails form s (d .count) t q) (passing x (used + d .count))
-      unfolding countedItem oneItem
+          ≡ bind (passTails form s (d .count) t q) (passing x q (used + d .count))
+      unfolding countedItem
       item-rows =
           rw (e, ← k)
           (by-rows (tails form s (d .count) (d .«first_index») t q) (rows-hold (d .count) (d .«first_index») t q)
-          ∙ ap (λ g. bind g (passing x (used + d .count))) (total-pass (d .count) (d .«first_index») t q))
+          ∙ ap (λ g. bind g (passing x q (used + d .count))) (total-pass (d .count) (d .«first_index») t q))
 
       pub item-done : {u z : ℕ} → passTails form s (d .count) t q ≡ got u z
-          → got (record { item = x; total = u; used = used + d .count }) z ≡ countedItem form s used t p
+          → got (record { item = x; tailsAt = q; total = u; used = used + d .count }) z ≡ countedItem form s used t p
       item-done f = rw (item-rows, f)
 
       pub item-no-tails : {r : ℕ} → passTails form s (d .count) t q ≡ refused r → refused r ≡ countedItem form s used t p

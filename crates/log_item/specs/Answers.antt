@@ -4,8 +4,9 @@
 use Prim.Native.Nat.{ℕ, _+_}
 use mathlib.Core.List.{List}
 use lib.ListN.{length}
-use Rattle.log_item.specs.Got.{Got, got, refused, Reading, done, _>>=_}
-use Rattle.log_item.specs.Reading.{tails, oneItem}
+use Rattle.log_item.specs.Got.{Got, got, refused, Reading, done, here, _>>=_}
+use Rattle.log_item.specs.Entries.{entriesOf}
+use Rattle.log_item.specs.Reading.{head, tails}
 use Rattle.log_item.specs.declared.Form.{Form}
 use Rattle.log_item.specs.declared.Span.{Span}
 use Rattle.log_item.specs.declared.Field.{Field}
@@ -14,7 +15,7 @@ use Rattle.log_item.specs.declared.SpanRead.{SpanRead}
 use Rattle.log_item.specs.declared.SpanRead.the-variants as span
 use Rattle.log_item.specs.declared.LogItem.{LogItem}
 use Rattle.log_item.specs.declared.HeadRead.{HeadRead}
-use Rattle.log_item.specs.declared.HeadRead.the-variants as head
+use Rattle.log_item.specs.declared.HeadRead.the-variants as headRead
 use Rattle.log_item.specs.declared.TailRead.{TailRead}
 use Rattle.log_item.specs.declared.TailRead.the-variants as tail
 use Rattle.log_item.specs.declared.ItemRead.{ItemRead}
@@ -31,28 +32,31 @@ spanGot (span.Done x q) = got x q
 spanGot (span.Refused r) = refused r
 
 abbrev pub headGot : HeadRead → Got LogItem
-headGot (head.Done x q) = got x q
-headGot (head.Refused r) = refused r
+headGot (headRead.Done x q) = got x q
+headGot (headRead.Refused r) = refused r
 
 abbrev pub tailGot : TailRead → Got ℕ
 tailGot (tail.Done u q) = got u q
 tailGot (tail.Refused r) = refused r
 
--- an item, and the total and the number of entries after it
+-- an item, the place of its tails, and the total and the number of entries after it
 pub record Counted : Type 0 where
   pub item : LogItem
+  pub tailsAt : ℕ
   pub total : ℕ
   pub used : ℕ
 
 abbrev pub itemGot : ItemRead → Got Counted
-itemGot (item.Done x q u e) = got (record { item = x; total = u; used = e }) q
+itemGot (item.Done x p q u e) = got (record { item = x; tailsAt = p; total = u; used = e }) q
 itemGot (item.Refused r) = refused r
 
--- an item, and the number of entries after it in the place of its rows
+-- an item as oneItem reads it, with the place of its tails and the number of entries after it in the place of its rows
 unfoldable pub countedItem : Form → List ℕ → ℕ → ℕ → Reading Counted
 countedItem form s e t = do
-  r ← oneItem form s e t
-  done (record { item = r .item; total = r .total; used = e + length (r .rows) })
+  x ← head form s e
+  p ← here
+  (rows, u) ← tails form s (entriesOf (x .content) .count) (entriesOf (x .content) .«first_index») t
+  done (record { item = x; tailsAt = p; total = u; used = e + length rows })
 
 -- the total and the number of entries after an item that was gone over
 abbrev pub passedGot : Passed → Got (ℕ × ℕ)

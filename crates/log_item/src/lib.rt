@@ -91,10 +91,11 @@ pub struct EntryIndex {
     pub entry_len: u32,
 }
 
-// An item, the place after it, and the total and the number of entries after it; or why it is refused.
+// An item, the place of its tails, the place after it, and the total and the number of entries after it; or why it is refused.
 pub enum ItemRead {
     Done {
         item: LogItem,
+        tails: usize,
         next: usize,
         total: u32,
         used: usize,
@@ -174,21 +175,19 @@ enum ContentRead {
 
 impl LogItem {
     // The item at a place, with `total` bytes of entries and `used` entries before it in the batch. It stores no rows: they can be
-    // read again from the head on.
+    // read from its tails.
     pub fn decode(buf: &[u8], at: usize, total: u32, used: usize) -> ItemRead
         ensures { λ r. ⌜ itemGot r ≡ countedItem Form.Any (now (buf .entry)) used total at ⌝ }
     {
         match LogItem::decode_head(buf, at, used, Form::Any) {
-            HeadRead::Done { item, next } => {
+            HeadRead::Done { item, next: tails } => {
                 let entries = item.entries();
                 let count = entries.count;
-                match skip_tails(buf, next, count, total, Form::Any) {
-                    TailRead::Done {
-                        total: after,
-                        next: end,
-                    } => ItemRead::Done {
+                match skip_tails(buf, tails, count, total, Form::Any) {
+                    TailRead::Done { total: after, next } => ItemRead::Done {
                         item,
-                        next: end,
+                        tails,
+                        next,
                         total: after,
                         used: used + count,
                     },

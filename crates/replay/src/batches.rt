@@ -111,6 +111,7 @@ pub(crate) fn status(line: &[u8]) -> bool {
     match LogItem::decode(bytes, 0, 0, 0) {
         ItemRead::Done {
             item,
+            tails: _,
             next: _,
             total: _,
             used: _,

@@ -5,7 +5,6 @@ use log_batch::LogItemBatch;
 use log_item::EntryIndex;
 use log_item::EntryIndexes;
 use log_item::Form;
-use log_item::HeadRead;
 use log_item::ItemRead;
 use log_item::LogItem;
 use log_item::TailRead;
@@ -19,6 +18,7 @@ pub(crate) fn one(line: &[u8]) -> bool {
     match LogItem::decode(bytes, 0, total, 0) {
         ItemRead::Done {
             item,
+            tails: start,
             next,
             total: after,
             used: _,
@@ -26,17 +26,9 @@ pub(crate) fn one(line: &[u8]) -> bool {
             let a = items::number(line, 5, next as u64);
             let b = items::number(line, a, after as u64);
             let c = items::head(line, b, item, bytes);
-            0 < one_tails(line, c, bytes, total)
+            0 < tails(line, c, bytes, start, total, item.entries())
         }
         ItemRead::Refused(number) => answer::is_refused(line, 5, number),
-    }
-}
-
-// The entries of the item at the start of bytes.
-fn one_tails(line: &[u8], k: usize, bytes: &[u8], total: u32) -> usize {
-    match LogItem::decode_head(bytes, 0, 0, Form::Any) {
-        HeadRead::Done { item, next } => tails(line, k, bytes, next, total, item.entries()),
-        HeadRead::Refused(_) => 0,
     }
 }
 
@@ -82,10 +74,9 @@ fn tails(
 pub(crate) fn read(line: &[u8]) -> bool {
     let mut buf = [0u8; 1024];
     let signature = line::short(line, 2);
-    let mut n = line::bytes(line, 3, &mut buf);
-    if line::kind(line) == b'i' {
-        n = list_writer::write_footer(signature, &mut buf, 0, n);
-    }
+    let count = line::bytes(line, 3, &mut buf);
+    let footed = list_writer::write_footer(signature, &mut buf, 0, count);
+    let n = if line::kind(line) == b'i' { footed } else { count };
     let bytes = line::front(&buf, n);
     table_agrees(line, LogItemBatch::decode(bytes, signature), bytes)
 }

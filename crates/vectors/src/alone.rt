@@ -16,6 +16,7 @@ pub(crate) fn case(line: &[u8]) {
     match LogItem::decode(line::front(&buf, n), 0, 0, 0) {
         ItemRead::Done {
             item,
+            tails: _,
             next: _,
             total: _,
             used: _,

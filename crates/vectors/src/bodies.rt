@@ -10,10 +10,9 @@ use log_batch::PlainForm;
 pub(crate) fn case(line: &[u8]) {
     let mut buf = [0u8; 2048];
     let signature = line::short(line, 2);
-    let mut n = line::bytes(line, 3, &mut buf);
-    if line::kind(line) == b'i' {
-        n = list_writer::write_footer(signature, &mut buf, 0, n);
-    }
+    let count = line::bytes(line, 3, &mut buf);
+    let footed = list_writer::write_footer(signature, &mut buf, 0, count);
+    let n = if line::kind(line) == b'i' { footed } else { count };
     let table = read(line::kind(line), line::front(&buf, n), signature);
     tables::line(line::word(line, 0), line::word(line, 1), table);
 }

@@ -20,6 +20,7 @@ fn mark(bytes: &[u8], lent: usize) -> StatusRead {
     match LogItem::decode(bytes, 0, 0, 0) {
         ItemRead::Done {
             item,
+            tails: _,
             next: _,
             total: _,
             used: _,

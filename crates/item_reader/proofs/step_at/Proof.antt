@@ -3,7 +3,7 @@
 use mathlib.Core.Path.{sym}
 use lib.Seq.{length-take-le}
 use native.Mathlib.Omega.{arith}
-use Rattle.item_reader.specs.Private.{foundGot}
+use Rattle.log_item.specs.Answers.{itemGot}
 use Rattle.log_item.proofs.Pieces.{learnt}
 use Rattle.item_reader.proofs.ItemLaws.{step-refused, step-end, step-over, step-broken}
 use borrow.Author.Needs.{needs}
@@ -25,17 +25,20 @@ returns-2 c = step-end _ _ _ _ _ _ _ (c .before .before .if1 .left) (c .before .
 content-len-requires : tie.Need-content-len-requires
 content-len-requires c κs = search needs
 
-slice-aggregate-read-item : tie.Need-slice-aggregate-read-item
-slice-aggregate-read-item c = sym (length-take-le _ _ (omega (arith, c .before .content-len .ensures)))
+slice-aggregate-decode : tie.Need-slice-aggregate-decode
+slice-aggregate-decode c = sym (length-take-le _ _ (omega (arith, c .before .content-len .ensures)))
 
-read-item-requires : tie.Need-read-item-requires
-read-item-requires c κs = search needs
+decode-requires : tie.Need-decode-requires
+decode-requires c κs = search needs
 
 enum-known-found : tie.Need-enum-known-found
 enum-known-found c = search needs
 
 add-t24 : tie.Need-add-t24
 add-t24 c = search needs
+
+handed-out-requires : tie.Need-handed-out-requires
+handed-out-requires c κs = search needs
 
 enum-known-number : tie.Need-enum-known-number
 enum-known-number c = search needs
@@ -44,10 +47,12 @@ stay-requires-3 : tie.Need-stay-requires-3
 stay-requires-3 c κs = search needs
 
 returns-3 : tie.Need-returns-3
-returns-3 c = step-over _ _ _ _ _ _ _ (c .before .before .before .before .before .before .before .if1 .left) (c .before .before .before .before .before .before .if2 .left) (c .before .before .before .before .before .content-len .ensures) (learnt foundGot (c .before .before .before .read-item .ensures) (c .before .found .given .1))
+returns-3 c =
+    step-over _ _ _ _ _ _ _ (c .before .before .before .before .before .before .before .before .if1 .left) (c .before .before .before .before .before .before .before .if2 .left) (c .before .before .before .before .before .before .content-len .ensures)
+    (learnt itemGot (c .before .before .before .before .decode .ensures) (c .before .before .found .given .1)) (c .handed-out .ensures)
 
 returns-4 : tie.Need-returns-4
-returns-4 c = step-broken _ _ _ _ _ _ _ (c .before .before .before .before .before .before .before .before .if1 .left) (c .before .before .before .before .before .before .before .if2 .left) (c .before .before .before .before .before .before .content-len .ensures) (learnt foundGot (c .before .before .before .before .read-item .ensures) (c .before .before .number .given .1)) (c .stay3 .ensures)
+returns-4 c = step-broken _ _ _ _ _ _ _ (c .before .before .before .before .before .before .before .before .if1 .left) (c .before .before .before .before .before .before .before .if2 .left) (c .before .before .before .before .before .before .content-len .ensures) (learnt itemGot (c .before .before .before .before .decode .ensures) (c .before .before .number .given .1)) (c .stay3 .ensures)
 
 pub step-at-spec : {M : Type 1} → statement M
 step-at-spec =
@@ -58,10 +63,11 @@ step-at-spec =
     stay-requires-2
     returns-2
     content-len-requires
-    slice-aggregate-read-item
-    read-item-requires
+    slice-aggregate-decode
+    decode-requires
     enum-known-found
     add-t24
+    handed-out-requires
     enum-known-number
     stay-requires-3
     returns-3
