@@ -3,20 +3,12 @@
 use mathlib.Core.Path.{_≡_, refl, sym, _∙_}
 use Rattle.one_answer.specs.ByHand.{OneAnswerByHand}
 use Rattle.location_table.specs.Values.{rewriteValue, rowsValue, fetchValue}
-use Rattle.location_table.proofs.rows_after as rows-fn
 use Rattle.location_table.proofs.rewrite as rw-fn
 use Rattle.location_table.proofs.fetch_entry_indexes_before as fetch-fn
 
-pub rows-after : OneAnswerByHand rows-fn.ended (λ M 𝓤 H. rows-fn.clauses 𝓤 H) (λ κs x y s t. x ≡ y)
-rows-after = record {
-  Post = λ κs a x s. x ≡ rowsValue (a .0) (a .1 .0) (a .1 .1 .0) (a .1 .1 .1 .0) (a .1 .1 .1 .1 .0) (a .1 .1 .1 .1 .1 .0) (a .1 .1 .1 .1 .1 .1 .0);
-  says = λ 𝓤 H A mem run κs a g x s. refl;
-  one = λ κs a x y s t p q. p ∙ sym q;
-}
-
 pub rewrite : OneAnswerByHand rw-fn.ended (λ M 𝓤 H. rw-fn.clauses 𝓤 H) (λ κs x y s t. x ≡ y)
 rewrite = record {
-  Post = λ κs a x s. x ≡ rewriteValue (a .0) (a .1 .0) (a .1 .1 .0) (a .1 .1 .1 .0) (a .1 .1 .1 .1 .0) (a .1 .1 .1 .1 .1 .0) (a .1 .1 .1 .1 .1 .1 .0);
+  Post = λ κs a x s. x ≡ record { answer = rewriteValue (a .0) (a .1 .0) (a .1 .1 .0) (a .1 .1 .1 .0) (a .1 .1 .1 .1 .0) (a .1 .1 .1 .1 .1 .0) (a .1 .1 .1 .1 .1 .1 .0); rows = rowsValue (a .0) (a .1 .0) (a .1 .1 .0) (a .1 .1 .1 .0) (a .1 .1 .1 .1 .0) (a .1 .1 .1 .1 .1 .0) (a .1 .1 .1 .1 .1 .1 .0) };
   says = λ 𝓤 H A mem run κs a g x s. refl;
   one = λ κs a x y s t p q. p ∙ sym q;
 }

@@ -1,5 +1,5 @@
 // Tables of at most 64 locations, by value: what calls these functions holds no slice of locations, and is covered. Each lends its
-// arrays to a function of memtable: rewrite and rows_after to its rewrite, the fetch to its fetch.
+// arrays to the function of memtable that has its name.
 ghost use mathlib.Core.Path.{_≡_};
 ghost use Rattle.location_table.specs.Private.{rowsUsed};
 ghost use Rattle.location_table.specs.Values.{rewriteValue, rowsValue, fetchValue, answerOf, fetchedOf};
@@ -11,27 +11,13 @@ use location_rules::Gate;
 use location_rules::Table;
 use pipe_log::Location;
 
-// The rows after a rewrite of the first `len` rows by the first `many` incoming ones. More than 64 of either: as they were.
-pub fn rows_after(
-    rows: [Location; 64],
-    len: usize,
-    table: Table,
-    incoming: [Location; 64],
-    many: usize,
-    first: u64,
-    gate: Gate,
-) -> [Location; 64]
-    ensures { λ r. ⌜ r ≡ rowsValue rows len table incoming many first gate ⌝ }
-{
-    let n = used(len, many);
-    let m = used(many, len);
-    let mut t = rows;
-    let i = incoming;
-    let _r = memtable::rewrite(&mut t[..n], table, &i[..m], first, gate);
-    t
+// What a rewrite by value leaves: its answer, and the rows after it.
+pub struct AfterRewrite {
+    pub answer: Rewritten,
+    pub rows: [Location; 64],
 }
 
-// The answer to that rewrite. More than 64 rows of either: 21.
+// A rewrite of the first `len` rows by the first `many` incoming ones. More than 64 of either: 21, and the rows as they were.
 pub fn rewrite(
     rows: [Location; 64],
     len: usize,
@@ -40,15 +26,18 @@ pub fn rewrite(
     many: usize,
     first: u64,
     gate: Gate,
-) -> Rewritten
-    ensures { λ r. ⌜ r ≡ rewriteValue rows len table incoming many first gate ⌝ }
+) -> AfterRewrite
+    ensures { λ r. ⌜ r ≡ record { answer = rewriteValue rows len table incoming many first gate; rows = rowsValue rows len table incoming many first gate } ⌝ }
 {
     let n = used(len, many);
     let m = used(many, len);
     let mut t = rows;
     let i = incoming;
     let r = memtable::rewrite(&mut t[..n], table, &i[..m], first, gate);
-    answer(len, many, table, r)
+    AfterRewrite {
+        answer: answer(len, many, table, r),
+        rows: t,
+    }
 }
 
 // The fetch before a gate of the first `len` rows. More than 64: 21.

@@ -4,7 +4,6 @@ use location_rules::Gate;
 use location_rules::Table;
 use location_table::fetch_entry_indexes_before;
 use location_table::rewrite;
-use location_table::rows_after;
 use pipe_log::Location;
 use pipe_log::LogQueue;
 
@@ -18,11 +17,12 @@ pub(crate) fn moved(line: &[u8]) -> bool {
     let first = line::number(line, on(k, 2));
     let gate = gate_at(line, k);
     let table = table_at(line);
-    let r = rewrite(rows, len, table, in_rows, incoming, first, gate);
+    let left = rewrite(rows, len, table, in_rows, incoming, first, gate);
+    let r = left.answer;
     if r.number != refusal::NONE {
         return false;
     }
-    let after = rows_after(rows, len, table, in_rows, incoming, first, gate);
+    let after = left.rows;
     let start = on(past(on(k, 4), incoming), 1);
     rows_agree(line, start, r.count as u64, after, len)
 }

@@ -62,8 +62,9 @@ fn rewrite(line: &[u8], call: &[u8], from: Memtable) -> Memtable {
     let rows = from.rows;
     let coming = incoming.rows;
     let len = from.len;
-    let r = location_table::rewrite(rows, len, table, coming, incoming.len, first, gate);
-    let after = location_table::rows_after(rows, len, table, coming, incoming.len, first, gate);
+    let left = location_table::rewrite(rows, len, table, coming, incoming.len, first, gate);
+    let r = left.answer;
+    let after = left.rows;
     start(line, call);
     text::number(r.number as u64);
     text::number(r.replaced as u64);
