@@ -9,12 +9,12 @@ use Rattle.line.proofs.part.Kinds as part-kinds
 use Rattle.line.proofs.part.Reads as part-reads
 use Rattle.line.proofs.front.Kinds as front-kinds
 use Rattle.line.proofs.front.Reads as front-reads
-use Rattle.line.proofs.after.Kinds as after-kinds
-use Rattle.line.proofs.after.Reads as after-reads
+use Rattle.line.proofs.words_from.Kinds as words-from-kinds
+use Rattle.line.proofs.words_from.Reads as words-from-reads
 use Rattle.line.proofs.word.Kinds as word-kinds
 use Rattle.line.proofs.word.Reads as word-reads
-use Rattle.line.proofs.kind.Kinds as kind-kinds
-use Rattle.line.proofs.kind.Reads as kind-reads
+use Rattle.line.proofs.first_letter.Kinds as first-letter-kinds
+use Rattle.line.proofs.first_letter.Reads as first-letter-reads
 use Rattle.line.proofs.value.Kinds as value-kinds
 use Rattle.line.proofs.value.Reads as value-reads
 use Rattle.line.proofs.number.Kinds as number-kinds
@@ -35,14 +35,14 @@ part κs a x y s t p q = p ∙ sym q
 pub front : OneAnswer 1 front-kinds.ps front-kinds.r front-reads.Post (λ κs x y s t. now x ≡ now y)
 front κs a x y s t p q = p ∙ sym q
 
-pub after : OneAnswer 1 after-kinds.ps after-kinds.r after-reads.Post (λ κs x y s t. now x ≡ now y)
-after κs a x y s t p q = p ∙ sym q
+pub words-from : OneAnswer 1 words-from-kinds.ps words-from-kinds.r words-from-reads.Post (λ κs x y s t. now x ≡ now y)
+words-from κs a x y s t p q = p ∙ sym q
 
 pub word : OneAnswer 1 word-kinds.ps word-kinds.r word-reads.Post (λ κs x y s t. now x ≡ now y)
 word κs a x y s t p q = p ∙ sym q
 
-pub kind : OneAnswer 1 kind-kinds.ps kind-kinds.r kind-reads.Post (λ κs x y s t. x ≡ y)
-kind κs a x y s t p q = p ∙ sym q
+pub first-letter : OneAnswer 1 first-letter-kinds.ps first-letter-kinds.r first-letter-reads.Post (λ κs x y s t. x ≡ y)
+first-letter κs a x y s t p q = p ∙ sym q
 
 pub value : OneAnswer 1 value-kinds.ps value-kinds.r value-reads.Post (λ κs x y s t. x ≡ y)
 value κs a x y s t p q = p ∙ sym q

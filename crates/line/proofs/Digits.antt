@@ -10,8 +10,8 @@ use native.Mathlib.Numerals.{add-one}
 use lib.Dec.{leb}
 use lib.ListN.{length, getD, take, drop, set, length-append, length-set}
 use lib.Seq.{take-suc, take-all, paste-suc}
-use borrow.Author.Tests.{leb-true, leb-false, le-leb, lt-leb}
-use Rattle.line.specs.Hex.{digitOf, numberOf, bytesOf}
+use borrow.Author.Tests.{leb-true, le-leb, lt-leb}
+use Rattle.line.specs.Hex.{digitOf, hexNumber, hexBytes}
 
 -- ---- a digit
 
@@ -61,8 +61,8 @@ digit-bound b e = omega (arith, digit-small b)
 
 -- ---- a number
 
-one-digit-more : (ds : List ℕ) (d : ℕ) → numberOf (ds ++ (d ∷ [])) ≡ numberOf ds * 16 + digitOf d
-unfolding numberOf
+one-digit-more : (ds : List ℕ) (d : ℕ) → hexNumber (ds ++ (d ∷ [])) ≡ hexNumber ds * 16 + digitOf d
+unfolding hexNumber
 one-digit-more [] d = omega arith
 one-digit-more (x ∷ ds) d =
     let long : length (ds ++ (d ∷ [])) ≡ suc (length ds) = length-append ds (d ∷ []) ∙ add-one (length ds) in
@@ -72,10 +72,10 @@ one-digit-more (x ∷ ds) d =
 -- what the loop holds after i digits
 pub record Spelt (digits : List ℕ) (n i : ℕ) : Type 0 where
   pub within : i ≤ length digits
-  pub low : n ≡ numberOf (take i digits) % 2 ^ 64
+  pub low : n ≡ hexNumber (take i digits) % 2 ^ 64
 
 pub spelt-start : (digits : List ℕ) → Spelt digits 0 0
-unfolding numberOf
+unfolding hexNumber
 spelt-start digits = record { within = zero-le; low = refl }
 
 pub spelt-more : {digits : List ℕ} {n i : ℕ} (d : ℕ) → Spelt digits n i → i < length digits → d ≡ digitOf (getD digits i 0)
@@ -87,19 +87,19 @@ spelt-more {digits} {n} {i} d w h e = record {
       (omega (arith, w .low, e, digit-small (getD digits i 0)));
 }
 
-pub spelt-end : {digits : List ℕ} {n i : ℕ} → Spelt digits n i → length digits ≤ i → n ≡ numberOf digits % 2 ^ 64
+pub spelt-end : {digits : List ℕ} {n i : ℕ} → Spelt digits n i → length digits ≤ i → n ≡ hexNumber digits % 2 ^ 64
 spelt-end {digits} {n} {i} w h = rw (take-all i digits h) at (w .low)
 
 -- ---- bytes
 
-pub length-bytes : (ds : List ℕ) → length (bytesOf ds) ≡ length ds / 2
-unfolding bytesOf
+pub length-bytes : (ds : List ℕ) → length (hexBytes ds) ≡ length ds / 2
+unfolding hexBytes
 length-bytes [] = omega arith
 length-bytes (d ∷ []) = omega arith
 length-bytes (d ∷ e ∷ ds) = omega (arith, length-bytes ds)
 
-pub byte-at : (ds : List ℕ) (i : ℕ) → i < length ds / 2 → getD (bytesOf ds) i 0 ≡ digitOf (getD ds (2 * i) 0) * 16 + digitOf (getD ds (2 * i + 1) 0)
-unfolding bytesOf
+pub byte-at : (ds : List ℕ) (i : ℕ) → i < length ds / 2 → getD (hexBytes ds) i 0 ≡ digitOf (getD ds (2 * i) 0) * 16 + digitOf (getD ds (2 * i + 1) 0)
+unfolding hexBytes
 byte-at [] i h = absurd (omega arith)
 byte-at (d ∷ []) i h = absurd (omega arith)
 byte-at (d ∷ e ∷ ds) zero h = refl
@@ -112,7 +112,7 @@ byte-at (d ∷ e ∷ ds) (suc i) h =
 pub record Laid (digits out₀ : List ℕ) (n : ℕ) (out : List ℕ) (i : ℕ) : Type 0 where
   pub within : i ≤ n
   pub long : length out ≡ length out₀
-  pub same : out ≡ take i (bytesOf digits) ++ drop i out₀
+  pub same : out ≡ take i (hexBytes digits) ++ drop i out₀
 
 module _ {digits out₀ : List ℕ} {n : ℕ} where
   pub laid-start : Laid digits out₀ n out₀ 0
@@ -123,15 +123,15 @@ module _ {digits out₀ : List ℕ} {n : ℕ} where
     laid-more b h e =
         let here : i < length digits / 2 = omega arith in
         let room : 0 + i < length out₀ = omega arith in
-        let byte : i < length (bytesOf digits) = omega (arith, length-bytes digits) in
-        let right : b ≡ getD (bytesOf digits) i 0 = e ∙ sym (byte-at digits i here) in
+        let byte : i < length (hexBytes digits) = omega (arith, length-bytes digits) in
+        let right : b ≡ getD (hexBytes digits) i 0 = e ∙ sym (byte-at digits i here) in
         record {
           within = omega arith;
           long = length-set out i b ∙ w .long;
-          same = rw (add-one i, right, w .same) (simp zero-add at (paste-suc out₀ 0 (bytesOf digits) i 0 room byte));
+          same = rw (add-one i, right, w .same) (simp zero-add at (paste-suc out₀ 0 (hexBytes digits) i 0 room byte));
         }
 
-    pub laid-end : {word : List ℕ} → n ≤ i → digits ≡ word → (n ≡ min (length out₀) (length (bytesOf word))) × (out ≡ take n (bytesOf word) ++ drop n out₀)
+    pub laid-end : {word : List ℕ} → n ≤ i → digits ≡ word → (n ≡ min (length out₀) (length (hexBytes word))) × (out ≡ take n (hexBytes word) ++ drop n out₀)
     laid-end h e =
         let all : i ≡ n = omega (arith, w .within) in
         (rw (← e, length-bytes digits) most, rw (← e, ← all) (w .same))

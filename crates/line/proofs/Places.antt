@@ -15,9 +15,9 @@ use Rattle.line.specs.Word.{space, wordsFrom, wordOf}
 -- ---- the first of a byte
 
 module _ (s : List ℕ) (at b : ℕ) where
-  pub past-end : length s < at → at ≡ at + indexOf b (drop at s)
+  pub behind-end : length s < at → at ≡ at + indexOf b (drop at s)
   unfolding indexOf
-  past-end h = let none : length s ≤ at = omega arith in rw (drop-of-length-le s none) (omega arith)
+  behind-end h = let none : length s ≤ at = omega arith in rw (drop-of-length-le s none) (omega arith)
 
   pub up-to-end : (r : ℕ) → r ≡ at + indexOf b (slice at (length s) s) → r ≡ at + indexOf b (drop at s)
   unfolding slice

@@ -12,7 +12,7 @@ use borrow.Author.Tests.{ne-eqb}
 use Rattle.bytes.specs.Bytes.{indexAfter, indexOf}
 use Rattle.words.specs.Word.{bigEndian}
 use Rattle.line.specs.Word.{space, wordsFrom, wordOf, Solid}
-use Rattle.line.specs.Hex.{numberOf, bytesOf}
+use Rattle.line.specs.Hex.{hexNumber, hexBytes}
 use Rattle.line.proofs.Places.{none-from}
 use Rattle.line.proofs.Digits.{length-bytes}
 
@@ -62,12 +62,12 @@ sixteens (suc m) =
     let two : 2 * suc m ≡ suc (suc (2 * m)) = omega arith in
     rw (two, pow-suc 16 (suc (2 * m)), pow-suc 16 (2 * m), sixteens m, pow-suc 256 m) (omega arith)
 
-pub number-of-bytes : (ds : List ℕ) → length ds % 2 ≡ 0 → numberOf ds ≡ bigEndian (bytesOf ds)
-unfolding numberOf bytesOf bigEndian
+pub number-of-bytes : (ds : List ℕ) → length ds % 2 ≡ 0 → hexNumber ds ≡ bigEndian (hexBytes ds)
+unfolding hexNumber hexBytes bigEndian
 number-of-bytes [] h = refl
 number-of-bytes (d ∷ []) h = absurd (omega arith)
 number-of-bytes (d ∷ e ∷ ds) h =
     let even : length ds % 2 ≡ 0 = omega arith in
-    let twice : length ds ≡ 2 * length (bytesOf ds) = omega (arith, length-bytes ds) in
-    let power : 16 ^ length ds ≡ 256 ^ length (bytesOf ds) = ap (λ (k : ℕ). 16 ^ k) twice ∙ sixteens (length (bytesOf ds)) in
+    let twice : length ds ≡ 2 * length (hexBytes ds) = omega (arith, length-bytes ds) in
+    let power : 16 ^ length ds ≡ 256 ^ length (hexBytes ds) = ap (λ (k : ℕ). 16 ^ k) twice ∙ sixteens (length (hexBytes ds)) in
     rw (pow-suc 16 (length ds), power, number-of-bytes ds even) (omega arith)

@@ -14,12 +14,12 @@ digitOf b =
     0)
 
 -- the number that digits spell, the highest first
-unfoldable pub numberOf : List ℕ → ℕ
-numberOf [] = 0
-numberOf (d ∷ ds) = digitOf d * 16 ^ length ds + numberOf ds
+unfoldable pub hexNumber : List ℕ → ℕ
+hexNumber [] = 0
+hexNumber (d ∷ ds) = digitOf d * 16 ^ length ds + hexNumber ds
 
 -- the bytes that pairs of digits spell; a single one at the end spells none
-unfoldable pub bytesOf : List ℕ → List ℕ
-bytesOf [] = []
-bytesOf (d ∷ []) = []
-bytesOf (d ∷ e ∷ ds) = (digitOf d * 16 + digitOf e) ∷ bytesOf ds
+unfoldable pub hexBytes : List ℕ → List ℕ
+hexBytes [] = []
+hexBytes (d ∷ []) = []
+hexBytes (d ∷ e ∷ ds) = (digitOf d * 16 + digitOf e) ∷ hexBytes ds

@@ -8,7 +8,7 @@ ghost use Prim.Native.Nat.{_+_, _-_, _*_, _%_, _^_, min};
 ghost use lib.ListN.{length, getD, take, drop};
 ghost use Rattle.bytes.specs.Bytes.{indexOf};
 ghost use Rattle.line.specs.Word.{space, wordsFrom, wordOf};
-ghost use Rattle.line.specs.Hex.{digitOf, numberOf, bytesOf};
+ghost use Rattle.line.specs.Hex.{digitOf, hexNumber, hexBytes};
 
 // The place of the first b from a place on, or the length where there is none; a place past the end is answered as it is.
 pub fn find(text: &[u8], at: usize, b: u8) -> usize
@@ -39,7 +39,7 @@ pub fn front(text: &[u8], n: usize) -> &[u8]
 }
 
 // What stands from a word on; nothing where there are fewer words.
-pub fn after(line: &[u8], k: usize) -> &[u8]
+pub fn words_from(line: &[u8], k: usize) -> &[u8]
     ensures { λ r. ⌜ now r ≡ wordsFrom (now (line .entry)) k ⌝ }
 {
     let mut at = 0;
@@ -59,12 +59,12 @@ pub fn after(line: &[u8], k: usize) -> &[u8]
 pub fn word(line: &[u8], k: usize) -> &[u8]
     ensures { λ r. ⌜ now r ≡ wordOf (now (line .entry)) k ⌝ }
 {
-    let words = after(line, k);
-    front(words, find(words, 0, b' '))
+    let rest = words_from(line, k);
+    front(rest, find(rest, 0, b' '))
 }
 
 // The first letter, by which a kind is told; a space where there is none.
-pub fn kind(line: &[u8]) -> u8
+pub fn first_letter(line: &[u8]) -> u8
     ensures { λ r. ⌜ r ≡ getD (now (line .entry)) 0 space ⌝ }
 {
     if 0 < line.len() { line[0] } else { b' ' }
@@ -72,7 +72,7 @@ pub fn kind(line: &[u8]) -> u8
 
 // The low 64 bits of the number that these digits spell.
 pub fn value(digits: &[u8]) -> u64
-    ensures { λ r. ⌜ r ≡ numberOf (now (digits .entry)) % 2 ^ 64 ⌝ }
+    ensures { λ r. ⌜ r ≡ hexNumber (now (digits .entry)) % 2 ^ 64 ⌝ }
 {
     let mut n: u64 = 0;
     let mut i = 0;
@@ -85,14 +85,14 @@ pub fn value(digits: &[u8]) -> u64
 
 // The same of a word.
 pub fn number(line: &[u8], k: usize) -> u64
-    ensures { λ r. ⌜ r ≡ numberOf (wordOf (now (line .entry)) k) % 2 ^ 64 ⌝ }
+    ensures { λ r. ⌜ r ≡ hexNumber (wordOf (now (line .entry)) k) % 2 ^ 64 ⌝ }
 {
     value(word(line, k))
 }
 
 // The low 32 bits of the number that a word spells.
 pub fn short(line: &[u8], k: usize) -> u32
-    ensures { λ r. ⌜ r ≡ numberOf (wordOf (now (line .entry)) k) % 2 ^ 32 ⌝ }
+    ensures { λ r. ⌜ r ≡ hexNumber (wordOf (now (line .entry)) k) % 2 ^ 32 ⌝ }
 {
     low(number(line, k))
 }
@@ -106,7 +106,7 @@ pub fn low(n: u64) -> u32
 
 // Puts the bytes that a word spells at the start of out, as far as there is room, and answers how many.
 pub fn bytes(line: &[u8], k: usize, out: &mut [u8]) -> usize
-    ensures { λ r. ⌜ (r ≡ min (length (now (out .entry))) (length (bytesOf (wordOf (now (line .entry)) k)))) × (now (out .exit) ≡ take r (bytesOf (wordOf (now (line .entry)) k)) ++ drop r (now (out .entry))) ⌝ }
+    ensures { λ r. ⌜ (r ≡ min (length (now (out .entry))) (length (hexBytes (wordOf (now (line .entry)) k)))) × (now (out .exit) ≡ take r (hexBytes (wordOf (now (line .entry)) k)) ++ drop r (now (out .entry))) ⌝ }
 {
     let digits = word(line, k);
     let n = words::least(out.len(), digits.len() / 2);

@@ -45,7 +45,7 @@ pub(crate) fn written(line: &[u8]) -> bool {
 }
 
 fn encoded(line: &[u8], table: LogItemBatch, store: &[u8], content: &[u8]) -> bool {
-    if line::kind(line) == b'w' {
+    if line::first_letter(line) == b'w' {
         checked(line, table, store, content)
     } else {
         unchecked(line, table, store, content)

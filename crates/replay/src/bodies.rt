@@ -76,7 +76,11 @@ pub(crate) fn read(line: &[u8]) -> bool {
     let signature = line::short(line, 2);
     let count = line::bytes(line, 3, &mut buf);
     let footed = list_writer::write_footer(signature, &mut buf, 0, count);
-    let n = if line::kind(line) == b'i' { footed } else { count };
+    let n = if line::first_letter(line) == b'i' {
+        footed
+    } else {
+        count
+    };
     let bytes = line::front(&buf, n);
     table_agrees(line, LogItemBatch::decode(bytes, signature), bytes)
 }

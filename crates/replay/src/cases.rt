@@ -84,7 +84,7 @@ fn more(n: u64) -> u64 {
 }
 
 fn compared(line: &[u8]) -> Outcome {
-    match line::kind(line) {
+    match line::first_letter(line) {
         b'r' => told(number::read(line)),
         b'n' => told(number::written(line)),
         b'c' => told(number::checksum(line)),

@@ -12,8 +12,12 @@ pub(crate) fn case(line: &[u8]) {
     let signature = line::short(line, 2);
     let count = line::bytes(line, 3, &mut buf);
     let footed = list_writer::write_footer(signature, &mut buf, 0, count);
-    let n = if line::kind(line) == b'i' { footed } else { count };
-    let table = read(line::kind(line), line::front(&buf, n), signature);
+    let n = if line::first_letter(line) == b'i' {
+        footed
+    } else {
+        count
+    };
+    let table = read(line::first_letter(line), line::front(&buf, n), signature);
     tables::line(line::word(line, 0), line::word(line, 1), table);
 }
 

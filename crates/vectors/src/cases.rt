@@ -52,13 +52,13 @@ fn lines(text: &[u8]) {
         if text.len() <= end {
             return;
         }
-        line(line::part(text, at, end));
+        case(line::part(text, at, end));
         at = end + 1;
     }
 }
 
-fn line(line: &[u8]) {
-    match line::kind(line) {
+fn case(line: &[u8]) {
+    match line::first_letter(line) {
         b'a' => alone::case(line),
         b'c' => sums::case(line),
         b'n' => number::number(line),

@@ -22,15 +22,15 @@ use refusal::Refusal;
 
 // Up to three edits, from word 7 on.
 pub(crate) fn edited(words: &[u8], table: LogItemBatch) -> LogItemBatch {
-    let first = line::after(words, 7);
-    let second = line::after(first, 3);
-    let third = line::after(second, 3);
+    let first = line::words_from(words, 7);
+    let second = line::words_from(first, 3);
+    let third = line::words_from(second, 3);
     edit(third, edit(second, edit(first, table)))
 }
 
 // The edit that the first three words name; none where there are no words.
 fn edit(words: &[u8], table: LogItemBatch) -> LogItemBatch {
-    let letter = line::kind(words);
+    let letter = line::first_letter(words);
     if letter == b' ' {
         return table;
     }

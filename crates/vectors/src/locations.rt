@@ -14,7 +14,7 @@ pub(crate) fn rows(word: &[u8]) -> Run {
     let mut rows = [row(b"A"); 64];
     let mut len = 0;
     let mut at = 0;
-    if line::kind(word) == b'-' {
+    if line::first_letter(word) == b'-' {
         return Run { rows, len };
     }
     while len < 64 {
@@ -32,7 +32,7 @@ pub(crate) fn rows(word: &[u8]) -> Run {
 fn row(word: &[u8]) -> Location {
     let n = numbers(word);
     Location {
-        queue: queue(line::kind(word)),
+        queue: queue(line::first_letter(word)),
         seq: n[1],
         offset: n[2],
         len: n[3],

@@ -15,12 +15,12 @@ struct Memtable {
 
 // The calls that a line names, one after another.
 pub(crate) fn case(line: &[u8]) {
-    let words = line::after(line, 2);
+    let words = line::words_from(line, 2);
     let mut table = table(words);
     let mut k = 3;
     while k < 32 {
-        let call = line::after(words, k);
-        match line::kind(call) {
+        let call = line::words_from(words, k);
+        match line::first_letter(call) {
             b'r' => {
                 table = rewrite(line, call, table);
                 k += 4;
@@ -82,7 +82,7 @@ fn rewrite(line: &[u8], call: &[u8], from: Memtable) -> Memtable {
 }
 
 fn gate(word: &[u8]) -> Gate {
-    if line::kind(word) == b'-' {
+    if line::first_letter(word) == b'-' {
         Gate::None
     } else {
         Gate::Given(line::value(word))

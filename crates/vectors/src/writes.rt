@@ -12,7 +12,7 @@ pub(crate) fn case(line: &[u8]) {
     let mut body = [0u8; 2048];
     let mut content = [0u8; 64];
     let mut out = [170u8; 2048];
-    let words = line::after(line, 2);
+    let words = line::words_from(line, 2);
     let room = line::number(words, 4) as usize;
     let m = line::bytes(words, 5, &mut content);
     let n = line::bytes(words, 6, &mut body);
@@ -45,13 +45,13 @@ fn encode(
     out: &mut [u8],
 ) -> Encoded {
     let signature = line::short(words, 2);
-    if line::kind(line::word(words, 0)) == b'w' {
-        if line::kind(line::word(words, 1)) == b'c' {
+    if line::first_letter(line::word(words, 0)) == b'w' {
+        if line::first_letter(line::word(words, 1)) == b'c' {
             LogBatch::encode(table, store, content, signature, out)
         } else {
             LogBatch::encode_unchecked(table, store, content, signature, out)
         }
-    } else if line::kind(line::word(words, 1)) == b'c' {
+    } else if line::first_letter(line::word(words, 1)) == b'c' {
         LogItemBatch::encode(table, store, signature, out)
     } else {
         LogItemBatch::encode_unchecked(table, store, signature, out)
@@ -75,7 +75,7 @@ fn back(line: &[u8], words: &[u8], bytes: &[u8]) {
         return;
     }
     let table = bodies::read(
-        line::kind(line::word(words, 0)),
+        line::first_letter(line::word(words, 0)),
         bytes,
         line::short(words, 3),
     );

@@ -1,13 +1,13 @@
 -- `line::find` meets its contract.
 -- Assumes nothing.
 use denote.Ref.{now}
-use Rattle.line.proofs.Places.{past-end, up-to-end}
+use Rattle.line.proofs.Places.{behind-end, up-to-end}
 use borrow.Author.Needs.{needs}
 use Rattle.line.proofs.find.Statement.{statement}
 use Rattle.line.proofs.find.Tie as tie
 
 returns : tie.Need-returns
-returns c = let a = c .before .before .args in past-end (now (a .text)) (a .at) (a .b) (c .if1 .taken)
+returns c = let a = c .before .before .args in behind-end (now (a .text)) (a .at) (a .b) (c .if1 .taken)
 
 find-requires : tie.Need-find-requires
 find-requires c κs = search needs

@@ -6,8 +6,8 @@ use borrow.Author.Needs.{needs}
 use Rattle.line.proofs.word.Statement.{statement}
 use Rattle.line.proofs.word.Tie as tie
 
-after-requires : tie.Need-after-requires
-after-requires c κs = search needs
+words-from-requires : tie.Need-words-from-requires
+words-from-requires c κs = search needs
 
 find-requires : tie.Need-find-requires
 find-requires c κs = search needs
@@ -16,7 +16,7 @@ front-requires : tie.Need-front-requires
 front-requires c κs = search needs
 
 returns : tie.Need-returns
-returns c = let a = c .before .before .before .before .args in rw (c .front .ensures) (word-front (now (a .line)) (a .k) (now (c .before .before .after .result)) (c .before .find .result) (c .before .before .after .ensures) (c .before .find .ensures))
+returns c = let a = c .before .before .before .before .args in rw (c .front .ensures) (word-front (now (a .line)) (a .k) (now (c .before .before .words-from .result)) (c .before .find .result) (c .before .before .words-from .ensures) (c .before .find .ensures))
 
 pub word-spec : {M : Type 1} → statement M
-word-spec = tie.close (tie.spec after-requires find-requires front-requires returns)
+word-spec = tie.close (tie.spec words-from-requires find-requires front-requires returns)

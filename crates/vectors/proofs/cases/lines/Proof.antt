@@ -24,8 +24,8 @@ returns c = search needs
 part-requires : tie.Need-part-requires Inv-loop μ-loop
 part-requires c κs = search needs
 
-line-requires : tie.Need-line-requires Inv-loop μ-loop
-line-requires c κs = search needs
+case-requires : tie.Need-case-requires Inv-loop μ-loop
+case-requires c κs = search needs
 
 add-at : tie.Need-add-at Inv-loop μ-loop
 add-at c = search needs
@@ -49,7 +49,7 @@ lines-spec =
     find-requires
     returns
     part-requires
-    line-requires
+    case-requires
     add-at
     loop-less
     loop-again

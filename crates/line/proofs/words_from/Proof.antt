@@ -1,10 +1,10 @@
--- `line::after` meets its contract. The loop's invariant, `From`: what stands from word k on stands from a place on, behind so many words.
+-- `line::words_from` meets its contract. The loop's invariant, `From`: what stands from word k on stands from a place on, behind so many words.
 -- Assumes nothing.
 use native.Mathlib.Omega.{arith}
 use Rattle.line.proofs.Places.{From, from-start, from-end, word-passed, none-left}
 use borrow.Author.Needs.{needs}
-use Rattle.line.proofs.after.Statement.{statement}
-use Rattle.line.proofs.after.Tie as tie
+use Rattle.line.proofs.words_from.Statement.{statement}
+use Rattle.line.proofs.words_from.Tie as tie
 
 abbrev Inv-loop : tie.InvT-loop
 Inv-loop line k at₀ left₀ at left = From line k at left
@@ -48,8 +48,8 @@ part-result-end c = search needs
 returns-2 : tie.Need-returns-2 Inv-loop μ-loop
 returns-2 c = from-end (c .before .before .loop .inv) (omega arith)
 
-pub after-spec : {M : Type 1} → statement M
-after-spec =
+pub words-from-spec : {M : Type 1} → statement M
+words-from-spec =
     tie.close
     (tie.spec
     Inv-loop
