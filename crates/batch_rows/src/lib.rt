@@ -41,7 +41,7 @@ pub fn read_rows(buf: &[u8], signature: u32, items: &mut [u64], entries: &mut [u
                 at: LogBatch::HEADER_LEN,
                 len: offset - LogBatch::HEADER_LEN,
             };
-            let wanted = Wanted::Exactly(log_batch::content_len(block.len));
+            let wanted = Wanted::Exactly(log_batch::sealed_len(block.len));
             let check = rows_reader::read_body(
                 &buf[offset..len],
                 signature,

@@ -13,7 +13,7 @@ use Rattle.log_item.specs.declared.Form.the-variants.{Any}
 use Rattle.log_item.specs.declared.LogItem.{LogItem}
 use Rattle.log_item.specs.declared.EntryIndex.{EntryIndex}
 use Rattle.log_item.proofs.Holds.{bind-got}
-use Rattle.log_item.proofs.Passing.{item-got}
+use Rattle.log_item.proofs.Counted.{item-got}
 use Rattle.log_item.proofs.Known.{head-known}
 use Rattle.log_batch.specs.Seal.{sealedPart}
 use Rattle.log_batch.specs.Reading.{accepted, items}

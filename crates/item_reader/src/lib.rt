@@ -10,7 +10,7 @@ ghost use Rattle.item_reader.specs.Rows.{nextRow};
 ghost use Rattle.item_reader.specs.Steps.{handedOut, stayed, stepOf};
 ghost use Rattle.item_reader.specs.Reader.{afterCount, openingOf, opened, stepFrom, afterCall, nthOf};
 use log_batch::BodyCheck;
-use log_batch::content_len;
+use log_batch::sealed_len;
 use log_item::EntryIndex;
 use log_item::EntryIndexes;
 use log_item::Field;
@@ -139,7 +139,7 @@ pub fn next_row(body: &[u8], rows: EntryRows) -> RowRead
     }
     let total = rows.total;
     let index = rows.index;
-    let n = content_len(body.len());
+    let n = sealed_len(body.len());
     match EntryIndexes::decode_tail(&body[..n], rows.at, total, Form::Any) {
         TailRead::Done { total: after, next } => RowRead::Row {
             row: EntryIndex {
@@ -169,7 +169,7 @@ fn open_body(body: &[u8], signature: u32) -> Opening
             total: _,
             next: _,
         } => {
-            let n = content_len(body.len());
+            let n = sealed_len(body.len());
             Opening {
                 at: after_count(&body[..n]),
                 count: items,
@@ -205,7 +205,7 @@ fn step_at(
     if count <= item {
         return stay(at, total, used, item, Next::End);
     }
-    let n = content_len(body.len());
+    let n = sealed_len(body.len());
     match LogItem::decode(&body[..n], at, total, used) {
         ItemRead::Done {
             item: found,

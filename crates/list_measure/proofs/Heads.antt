@@ -8,7 +8,7 @@ use native.Mathlib.Omega.{arith}
 use lib.ListN.{length}
 use Rattle.log_item.specs.Entries.{entriesOf}
 use Rattle.log_item.specs.declared.LogItem.{LogItem}
-use Rattle.log_item.specs.declared.Head.the-variants.{Fine, Refused}
+use Rattle.log_item.specs.declared.HeadSize.the-variants.{Fine, Refused}
 use Rattle.log_item.specs.Bytes.{headBytes}
 use Rattle.log_item.specs.Refusing.{contentRefusal}
 use Rattle.log_item.specs.Written.{capped, headOf, measureItem}

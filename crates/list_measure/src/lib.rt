@@ -7,7 +7,7 @@ ghost use Rattle.list_measure.specs.Bytes.{itemsOf, lengthsOf};
 ghost use Rattle.list_measure.specs.Refusing.{fine};
 ghost use Rattle.list_measure.specs.Answers.{measured, measuredOf, measureOf};
 use log_item::EntryIndex;
-use log_item::Head;
+use log_item::HeadSize;
 use log_item::LogItem;
 
 // The first refusal and its item; or number 0, the length of the body, footer included, and the sum of its entry lengths.
@@ -52,10 +52,10 @@ pub fn measure(
         } else if i < item_count {
             let item = items[i];
             match LogItem::measure(item, store, checked, j, rows) {
-                Head::Refused(number) => {
+                HeadSize::Refused(number) => {
                     return refuse(number, i);
                 }
-                Head::Fine { len, count } => {
+                HeadSize::Fine { len, count } => {
                     size += len;
                     tails = count;
                     i += 1;

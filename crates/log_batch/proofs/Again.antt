@@ -17,7 +17,7 @@ use Rattle.crc.specs.Crc.{crcOf}
 use Rattle.words.specs.Byte.{Bytes}
 use Rattle.crc.proofs.Laws.{crc-lt}
 use Rattle.log_item.specs.Got.{got}
-use Rattle.log_batch.specs.Seal.{sealCheck, blockCheck, contentLength}
+use Rattle.log_batch.specs.Seal.{sealCheck, blockCheck, sealedLength}
 use Rattle.log_batch.specs.Front.{blockBytes, bodyOffset, headerBytes, frontBytes}
 use Rattle.log_batch.proofs.Planning.{filled-block, block-empty, block-filled, header-length, front-length}
 use Rattle.log_batch.specs.Header.{frame, header}
@@ -42,10 +42,10 @@ block-good content bytes = go (eqb (length content) 0) refl
         sym (block-some (blockBytes content) long (sym (ap (λ (l : List ℕ). sealCheck l 0) whole ∙ good)))
 
 -- The content of a block is as long as it was.
-pub content-size : (content : List ℕ) → contentLength (blockBytes content) ≡ length content
+pub content-size : (content : List ℕ) → sealedLength (blockBytes content) ≡ length content
 content-size content = go (eqb (length content) 0) refl
   where
-    go : (b : Bool) → eqb (length content) 0 ≡ b → contentLength (blockBytes content) ≡ length content
+    go : (b : Bool) → eqb (length content) 0 ≡ b → sealedLength (blockBytes content) ≡ length content
     go true e = let z = eqb-true (length content) 0 e in omega (arith, block-empty content z)
     go false e = omega (arith, block-filled content (eqb-false (length content) 0 e))
 

@@ -23,7 +23,7 @@ use Rattle.log_batch.specs.declared.PlainForm.the-variants as plain
 use Rattle.log_batch.specs.Body.{readBody}
 use Rattle.log_batch.specs.Seal.{sealedPart}
 use Rattle.log_batch.specs.Answers.{checkOf, plainBody}
-use Rattle.log_item.proofs.Passing.{pass-one}
+use Rattle.log_item.proofs.Counted.{pass-one}
 use Rattle.log_batch.proofs.Bodies.{parts}
 
 -- ---- the item count
@@ -33,9 +33,9 @@ module _ (form : Form) (s : List ℕ) where
   unfolding readItems count
   count-broken e = rw e
 
-  pub count-many : {n q : ℕ} → number form s 0 ≡ got n q → 256 < n → readItems form s ≡ rejected 9 0
+  pub items-many : {n q : ℕ} → number form s 0 ≡ got n q → 256 < n → readItems form s ≡ rejected 9 0
   unfolding readItems count
-  count-many e h = rw (e, lt-leb _ _ h)
+  items-many e h = rw (e, lt-leb _ _ h)
 
   pub count-good : {n q : ℕ} → number form s 0 ≡ got n q → n ≤ 256 → readItems form s ≡ items form s n 0 0 0 q
   unfolding readItems count

@@ -8,8 +8,8 @@ use Rattle.log_batch.proofs.seal.check_seal.Kinds as check-seal-kinds
 use Rattle.log_batch.proofs.seal.check_seal.Reads as check-seal-reads
 use Rattle.log_batch.proofs.seal.check_block.Kinds as check-block-kinds
 use Rattle.log_batch.proofs.seal.check_block.Reads as check-block-reads
-use Rattle.log_batch.proofs.seal.content_len.Kinds as content-len-kinds
-use Rattle.log_batch.proofs.seal.content_len.Reads as content-len-reads
+use Rattle.log_batch.proofs.seal.sealed_len.Kinds as sealed-len-kinds
+use Rattle.log_batch.proofs.seal.sealed_len.Reads as sealed-len-reads
 use Rattle.log_batch.proofs.body.check_items.Kinds as check-items-kinds
 use Rattle.log_batch.proofs.body.check_items.Reads as check-items-reads
 use Rattle.log_batch.proofs.body.check.Kinds as check-kinds
@@ -61,8 +61,8 @@ check-seal κs a x y s t p q = p ∙ sym q
 pub check-block : OneAnswer 1 check-block-kinds.ps check-block-kinds.r check-block-reads.Post (λ κs x y s t. x ≡ y)
 check-block κs a x y s t p q = p ∙ sym q
 
-pub content-len : OneAnswer 0 content-len-kinds.ps content-len-kinds.r content-len-reads.Post (λ κs x y s t. x ≡ y)
-content-len κs a x y s t p q = p ∙ sym q
+pub sealed-len : OneAnswer 0 sealed-len-kinds.ps sealed-len-kinds.r sealed-len-reads.Post (λ κs x y s t. x ≡ y)
+sealed-len κs a x y s t p q = p ∙ sym q
 
 pub check-items : OneAnswer 1 check-items-kinds.ps check-items-kinds.r check-items-reads.Post (λ κs x y s t. x ≡ y)
 check-items κs a x y s t p q = p ∙ sym q

@@ -17,7 +17,7 @@ use Rattle.log_batch.specs.declared.Wanted.the-variants.{Exactly}
 use Rattle.log_batch.specs.Reading.{Answer, accepted, rejected}
 use Rattle.log_batch.specs.Body.{readBody}
 use Rattle.log_batch.proofs.NonZero.{refusal-some}
-use Rattle.log_batch.specs.Seal.{blockCheck, contentLength}
+use Rattle.log_batch.specs.Seal.{blockCheck, sealedLength}
 use Rattle.log_batch.specs.Total.{agreeing}
 use Rattle.log_batch.specs.Table.{emptyTable, tableOf}
 use Rattle.log_batch.specs.declared.LogBatch.{LogBatch}
@@ -139,7 +139,7 @@ module _ (s : List ℕ) where
   front-known e = of-got (front-holds 0) e
 
   -- The block has as much content as its length leaves beside a checksum.
-  pub content-known : {h : LogBatch} {q : ℕ} → frontBatch s 0 ≡ got h q → contentLength (blockOf h s) ≡ h .offset - 16 - 4
+  pub content-known : {h : LogBatch} {q : ℕ} → frontBatch s 0 ≡ got h q → sealedLength (blockOf h s) ≡ h .offset - 16 - 4
   content-known {h} e =
       let g = front-known e in
       omega (arith, g .start, g .inside, g .there, length-take (h .offset - 16) (drop 16 s), length-drop 16 s)

@@ -14,7 +14,7 @@ use Rattle.words.specs.Word.{littleEndian, readU32}
 use Rattle.words.specs.declared.U32Read.the-variants.{Done, Eof}
 use Rattle.crc.specs.Crc.{crcOf}
 use Rattle.log_item.specs.declared.Form.the-variants.{Any}
-use Rattle.log_batch.specs.Seal.{contentLength, sealedPart, footer, sealCheck, blockCheck}
+use Rattle.log_batch.specs.Seal.{sealedLength, sealedPart, footer, sealCheck, blockCheck}
 use Rattle.log_batch.specs.Reading.{rejected, readItems}
 use Rattle.log_batch.specs.Body.{readBody}
 
@@ -25,17 +25,17 @@ module _ (b : List ℕ) (signature : ℕ) where
 
   module _ (long : 4 < length b) where
     -- the word at the last four bytes is the footer
-    word : readU32 b (contentLength b) ≡ Done (footer b) (contentLength b + 4)
+    word : readU32 b (sealedLength b) ≡ Done (footer b) (sealedLength b + 4)
     unfolding readU32
     word =
-        let fits : contentLength b + 4 ≤ length b = omega arith in
-        let four : length (drop (contentLength b) b) ≤ 4 = omega (arith, length-drop (contentLength b) b) in
-        rw (le-leb _ _ fits, take-all 4 (drop (contentLength b) b) four)
+        let fits : sealedLength b + 4 ≤ length b = omega arith in
+        let four : length (drop (sealedLength b) b) ≤ 4 = omega (arith, length-drop (sealedLength b) b) in
+        rw (le-leb _ _ fits, take-all 4 (drop (sealedLength b) b) four)
 
-    same : {w q : ℕ} → readU32 b (contentLength b) ≡ Done w q → w ≡ footer b
+    same : {w q : ℕ} → readU32 b (sealedLength b) ≡ Done w q → w ≡ footer b
     same e = cc word
 
-    module _ {w q c : ℕ} (e : readU32 b (contentLength b) ≡ Done w q) (k : c ≡ crcOf (sealedPart b)) where
+    module _ {w q c : ℕ} (e : readU32 b (sealedLength b) ≡ Done w q) (k : c ≡ crcOf (sealedPart b)) where
       pub seal-right : w ≡ bitXor c signature → 0 ≡ sealCheck b signature
       unfolding sealCheck
       seal-right h =
@@ -50,7 +50,7 @@ module _ (b : List ℕ) (signature : ℕ) where
           rw (lt-leb _ _ long, ne-eqb _ _ f)
 
     -- there are four bytes
-    pub seal-there : {r : ℕ} → readU32 b (contentLength b) ≡ Eof → r ≡ sealCheck b signature
+    pub seal-there : {r : ℕ} → readU32 b (sealedLength b) ≡ Eof → r ≡ sealCheck b signature
     seal-there e = let z : _≡_ {A = ℕ} 0 1 = cc word in absurd (omega arith)
 
 -- ---- a right seal
@@ -75,12 +75,12 @@ seal-long b signature e = sealed b signature e .long
 -- Of a part and four bytes behind it, the sealed part and the footer are these.
 pub part-of : (rest last : List ℕ) → length last ≡ 4 → sealedPart (rest ++ last) ≡ rest
 part-of rest last four =
-    let long : length rest ≡ contentLength (rest ++ last) = omega (arith, length-append rest last) in
+    let long : length rest ≡ sealedLength (rest ++ last) = omega (arith, length-append rest last) in
     take-at rest last _ long
 
 pub footer-of : (rest last : List ℕ) → length last ≡ 4 → footer (rest ++ last) ≡ littleEndian last
 footer-of rest last four =
-    let long : length rest ≡ contentLength (rest ++ last) = omega (arith, length-append rest last) in
+    let long : length rest ≡ sealedLength (rest ++ last) = omega (arith, length-append rest last) in
     ap littleEndian (drop-at rest last _ long)
 
 -- Where the part is not empty and the four bytes are its checksum XOR the signature, the seal is right.

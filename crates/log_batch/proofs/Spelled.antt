@@ -41,7 +41,7 @@ use Rattle.log_item.specs.Refusing.{contentRefusal}
 use Rattle.log_item.specs.Written.{sumOf, rowLengths, itemBytes}
 use Rattle.log_item.specs.Relocated.{stated, contentAt, itemAt, itemRows, numbersOf, Small}
 use Rattle.log_item.proofs.Refusals.{content-inside, content-allowed}
-use Rattle.log_item.proofs.ItemWritten.{Writable, first-small, written-item, read-item-at, spans-kept}
+use Rattle.log_item.proofs.Spelled.{Writable, first-small, written-item, read-item-at, spans-kept}
 use Rattle.list_writer.specs.declared.Encoded.{Encoded}
 use Rattle.log_item.specs.Blank.{blankItem}
 use Rattle.list_measure.specs.Bytes.{itemsOf, itemsBytes, listBytes}

@@ -18,7 +18,7 @@ use Rattle.words.specs.Word.{littleEndian, littleEndianBytes}
 use Rattle.words.specs.Byte.{Bytes}
 use Rattle.words.proofs.Words.{length-little}
 use Rattle.crc.specs.Crc.{crcOf}
-use Rattle.log_batch.specs.Seal.{sealedPart, contentLength}
+use Rattle.log_batch.specs.Seal.{sealedPart, sealedLength}
 use Rattle.log_item.specs.Pieces.{byte, number, span}
 use Rattle.log_item.specs.Reading.{command, putAt, keyValue, firstIndex, entryCount, entryIndexes, content, head, tail, tails, oneItem}
 use Rattle.log_item.specs.declared.Span.{Span}
@@ -276,8 +276,8 @@ module _ (checked : Bool) (xs : List LogItem) (ns s : List ℕ) (signature : ℕ
       let k = whole (list-sized s checked xs ns signature) w h in
       let long : bodyOffset content + length body - bodyOffset content ≡ length body = omega arith in
       let block : bodyOffset content - 16 ≡ length (blockBytes content) = omega arith in
-      let size : contentLength (blockOf (frameOf content body) (framed content body ++ t)) ≡ length content =
-      ap contentLength (block-again content body t) ∙ content-size content in
+      let size : sealedLength (blockOf (frameOf content body) (framed content body ++ t)) ≡ length content =
+      ap sealedLength (block-again content body t) ∙ content-size content in
       let front = front-again content body t (rw (k .size) at (k .few)) bytes in
       ap (λ (l : List ℕ). readBatch l signature) batch-stands ∙ body-read (framed content body ++ t) signature front
       ∙ (rw (size, body-again content body t, long, block))

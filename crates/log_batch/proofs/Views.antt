@@ -11,7 +11,7 @@ use lib.ListN.{length, take, drop}
 use Rattle.refusal.proofs.First.{other-answer, first-fails, first-passes, neither-refused, taken}
 use Rattle.pipe_log.specs.declared.LogQueue.the-variants.{Append, Rewrite}
 use Rattle.pipe_log.specs.declared.Location.{Location}
-use Rattle.log_batch.specs.Seal.{blockCheck, contentLength}
+use Rattle.log_batch.specs.Seal.{blockCheck, sealedLength}
 use Rattle.log_batch.specs.View.{named, entryCheck, viewCheck, viewed}
 
 -- ---- an entry and its block
@@ -30,13 +30,13 @@ module _ (block : List ℕ) (long offset len : ℕ) where
       pub entry-outside : c < offset + len → 13 ≡ entryCheck long offset len block
       unfolding entryCheck
       entry-outside h =
-          let k : contentLength block < offset + len = omega arith in
+          let k : sealedLength block < offset + len = omega arith in
           rw (eq-eqb _ _ same, lt-leb _ _ k) (first-passes (blockCheck block) 13 e sealed refl)
 
       pub entry-inside : offset + len ≤ c → 0 ≡ entryCheck long offset len block
       unfolding entryCheck
       entry-inside h =
-          let k : offset + len ≤ contentLength block = omega arith in
+          let k : offset + len ≤ sealedLength block = omega arith in
           rw (eq-eqb _ _ same, le-leb _ _ k) (first-passes (blockCheck block) 0 e sealed refl)
 
 module _ (row : Location) (block : List ℕ) where
@@ -45,8 +45,8 @@ module _ (row : Location) (block : List ℕ) where
   unfolding entryCheck
   entry-lies e =
       let same = taken (eqb (length block) (row .len)) 19 _ e in
-      let fits = taken (leb (row .«entry_offset» + row .«entry_len») (contentLength block)) 12 0 (neither-refused (blockCheck block) _ (same .1) .1) in
-      omega (arith, leb-true (row .«entry_offset» + row .«entry_len») (contentLength block) (fits .0))
+      let fits = taken (leb (row .«entry_offset» + row .«entry_len») (sealedLength block)) 12 0 (neither-refused (blockCheck block) _ (same .1) .1) in
+      omega (arith, leb-true (row .«entry_offset» + row .«entry_len») (sealedLength block) (fits .0))
 
   pub view-none : {n : ℕ} → n ≡ viewCheck row block → (n ≡ 0 → ⊥) → [] ≡ viewed (viewCheck row block) row block
   unfolding viewed

@@ -9,7 +9,7 @@ use borrow.Author.Tests.{le-leb, eq-eqb}
 use lib.ListN.{length, take, drop, length-append, length-drop}
 use lib.Seq.{take-append-le, drop-append-le}
 use Rattle.words.specs.Word.{bigEndian}
-use Rattle.log_batch.specs.Seal.{contentLength}
+use Rattle.log_batch.specs.Seal.{sealedLength}
 use Rattle.log_item.specs.Got.{Got, got, refused}
 use Rattle.log_item.specs.declared.Span.{Span}
 use Rattle.log_item.specs.declared.LogItem.{LogItem}
@@ -38,7 +38,7 @@ module _ (s : List ℕ) (signature : ℕ) where
   -- The body of a whole batch is read as it is by itself; then its entry total is held to the block's content.
   pub body-read : {h : LogBatch} {q : ℕ} → frontBatch s 0 ≡ got h q
       → readBatch s signature ≡ tableOf (record { at = h .offset; len = h .len - h .offset }) (record { at = 16; len = h .offset - 16 })
-      (agreeing (Exactly (contentLength (blockOf h s))) (readBody (bodyOf h s) signature))
+      (agreeing (Exactly (sealedLength (blockOf h s))) (readBody (bodyOf h s) signature))
   unfolding readBatch
   body-read e = rw e
 
@@ -47,17 +47,17 @@ module _ (s : List ℕ) (signature : ℕ) where
   pub batch-exactly :
       (readBatch s signature .refusal .number ≡ 0)
       ↔ ((h : LogBatch) × (q : ℕ) × (frontBatch s 0 ≡ got h q)
-      × ((xs : List LogItem) × (rows : List EntryIndex) × (p : ℕ) × (readBody (bodyOf h s) signature ≡ accepted xs rows (contentLength (blockOf h s)) p)))
+      × ((xs : List LogItem) × (rows : List EntryIndex) × (p : ℕ) × (readBody (bodyOf h s) signature ≡ accepted xs rows (sealedLength (blockOf h s)) p)))
   unfolding readBatch tableOf
-  batch-exactly = (λ z. only (frontBatch s 0) refl z, λ k. rw (k .2, k .3 .3, eq-eqb (contentLength (blockOf (k .0) s)) (contentLength (blockOf (k .0) s)) refl))
+  batch-exactly = (λ z. only (frontBatch s 0) refl z, λ k. rw (k .2, k .3 .3, eq-eqb (sealedLength (blockOf (k .0) s)) (sealedLength (blockOf (k .0) s)) refl))
     where
       only : (g : Got LogBatch) → frontBatch s 0 ≡ g → tableOf (bodyPlace g) (blockPlace g) (batchAnswer s signature g) .refusal .number ≡ 0
           → (h : LogBatch) × (q : ℕ) × (frontBatch s 0 ≡ got h q)
-          × ((xs : List LogItem) × (rows : List EntryIndex) × (p : ℕ) × (readBody (bodyOf h s) signature ≡ accepted xs rows (contentLength (blockOf h s)) p))
+          × ((xs : List LogItem) × (rows : List EntryIndex) × (p : ℕ) × (readBody (bodyOf h s) signature ≡ accepted xs rows (sealedLength (blockOf h s)) p))
       only (refused r) e z = absurd (front-some s e z)
       only (got h q) e z =
           let k =
-          total-agrees (bodyPlace (got h q)) (blockPlace (got h q)) (contentLength (blockOf h s)) (readBody (bodyOf h s) signature) (λ r i f. refusal-some (bodyOf h s) signature f) z in
+          total-agrees (bodyPlace (got h q)) (blockPlace (got h q)) (sealedLength (blockOf h s)) (readBody (bodyOf h s) signature) (λ r i f. refusal-some (bodyOf h s) signature f) z in
           (h, q, e, k)
 
 -- Bytes past the length are not looked at.

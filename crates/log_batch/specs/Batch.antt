@@ -11,7 +11,7 @@ use Rattle.log_batch.specs.declared.Wanted.the-variants.{Exactly}
 use Rattle.log_batch.specs.Reading.{Answer, rejected}
 use Rattle.log_batch.specs.Body.{readBody}
 use Rattle.log_batch.specs.Total.{agreeing}
-use Rattle.log_batch.specs.Seal.{blockCheck, contentLength}
+use Rattle.log_batch.specs.Seal.{blockCheck, sealedLength}
 use Rattle.log_batch.specs.Table.{tableOf}
 use Rattle.log_batch.specs.declared.LogBatch.{LogBatch}
 use Rattle.log_batch.specs.Header.{header}
@@ -38,7 +38,7 @@ frontBatch s = do
 
 -- then the body, read as it is by itself, and 20 where its entries do not come to the block's content
 abbrev pub batchAnswer : List ℕ → ℕ → Got LogBatch → Answer
-batchAnswer s signature (got h q) = agreeing (Exactly (contentLength (blockOf h s))) (readBody (bodyOf h s) signature)
+batchAnswer s signature (got h q) = agreeing (Exactly (sealedLength (blockOf h s))) (readBody (bodyOf h s) signature)
 batchAnswer s signature (refused r) = rejected r 0
 
 -- where body and block stand

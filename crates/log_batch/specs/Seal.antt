@@ -9,15 +9,15 @@ use lib.ListN.{length, take, drop}
 use Rattle.words.specs.Word.{littleEndian}
 use Rattle.crc.specs.Crc.{crcOf}
 
--- what stands before the last four bytes, how long it is, and the word that these are
-abbrev pub contentLength : List ℕ → ℕ
-contentLength b = length b - 4
+-- how much stands before the last four bytes, what that is, and the word that these are
+abbrev pub sealedLength : List ℕ → ℕ
+sealedLength b = length b - 4
 
 abbrev pub sealedPart : List ℕ → List ℕ
-sealedPart b = take (contentLength b) b
+sealedPart b = take (sealedLength b) b
 
 abbrev pub footer : List ℕ → ℕ
-footer b = littleEndian (drop (contentLength b) b)
+footer b = littleEndian (drop (sealedLength b) b)
 
 -- 5 where there are four bytes or fewer, 6 where the checksum is wrong, else 0
 unfoldable pub sealCheck : List ℕ → ℕ → ℕ

@@ -9,7 +9,7 @@ use Rattle.refusal.specs.First.{firstOf, ifNone}
 use Rattle.pipe_log.specs.declared.LogQueue.{LogQueue}
 use Rattle.pipe_log.specs.declared.LogQueue.the-variants.{Append, Rewrite}
 use Rattle.pipe_log.specs.declared.Location.{Location}
-use Rattle.log_batch.specs.Seal.{blockCheck, contentLength}
+use Rattle.log_batch.specs.Seal.{blockCheck, sealedLength}
 
 -- the block that the queue names
 abbrev pub named : LogQueue → List ℕ → List ℕ → List ℕ
@@ -19,7 +19,7 @@ named Rewrite append rewrite = rewrite
 -- the block is to have the length `long`; the entry stands in its content
 unfoldable pub entryCheck : ℕ → ℕ → ℕ → List ℕ → ℕ
 entryCheck long offset len block =
-    cond (eqb (length block) long) (firstOf (blockCheck block) (cond (leb (offset + len) (contentLength block)) 0 13)) 20
+    cond (eqb (length block) long) (firstOf (blockCheck block) (cond (leb (offset + len) (sealedLength block)) 0 13)) 20
 
 abbrev pub viewCheck : Location → List ℕ → ℕ
 viewCheck row block = entryCheck (row .len) (row .«entry_offset») (row .«entry_len») block

@@ -14,7 +14,7 @@ pub use front::begin;
 pub use list_writer::Encoded;
 pub use seal::check_block;
 pub use seal::check_seal;
-pub use seal::content_len;
+pub use seal::sealed_len;
 pub use table::read_items;
 pub use view::check_entry;
 pub use view::entry_view;
@@ -176,7 +176,7 @@ impl LogBatch {
                 if t.refusal.number != refusal::NONE {
                     return t;
                 }
-                if t.total as usize != content_len(block.len) {
+                if t.total as usize != sealed_len(block.len) {
                     return LogItemBatch::empty(refusal::BLOCK_DIFFERS, 0);
                 }
                 t.body = body;

@@ -35,8 +35,8 @@ pub fn check_block(block: &[u8]) -> u32
     check_seal(block, 0)
 }
 
-// How many of so many bytes stand before a checksum: the length of a block's content, or of a body's items.
-pub fn content_len(len: usize) -> usize
+// How many of so many bytes stand before a checksum: the length of a block's content, or of a body without its footer.
+pub fn sealed_len(len: usize) -> usize
     ensures { λ r. ⌜ r ≡ len - 4 ⌝ }
 {
     if len < LogBatch::CHECKSUM_LEN {

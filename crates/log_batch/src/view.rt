@@ -2,7 +2,7 @@
 ghost use mathlib.Core.Path.{_≡_};
 ghost use Rattle.log_batch.specs.View.{named, entryCheck, viewCheck, viewed};
 use crate::seal::check_block;
-use crate::seal::content_len;
+use crate::seal::sealed_len;
 use pipe_log::Location;
 use pipe_log::LogQueue;
 
@@ -55,7 +55,7 @@ pub fn check_entry(block: &[u8], long: u64, offset: u64, len: u64) -> u32
     if broken != refusal::NONE {
         return broken;
     }
-    let content = content_len(block.len()) as u64;
+    let content = sealed_len(block.len()) as u64;
     if content < offset {
         return refusal::SPAN_OUTSIDE;
     }

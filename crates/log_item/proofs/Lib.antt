@@ -4,8 +4,8 @@ pub mod NumberGot
 pub mod Starts
 pub mod Every
 pub mod Reading
+pub mod Counted
 pub mod Passing
-pub mod Going
 pub mod Short
 pub mod Known
 pub mod Place
@@ -20,6 +20,6 @@ pub mod Stores
 pub mod Bytes
 pub mod Tails
 pub mod Refusals
-pub mod Items
-pub mod ItemWritten
+pub mod Written
+pub mod Spelled
 pub mod Determined

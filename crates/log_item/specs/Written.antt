@@ -12,8 +12,8 @@ use Rattle.log_item.specs.Entries.{entriesOf}
 use Rattle.log_item.specs.declared.LogItem.{LogItem}
 use Rattle.log_item.specs.Bytes.{headBytes, tailsBytes}
 use Rattle.log_item.specs.Refusing.{spanRefusal, contentRefusal}
-use Rattle.log_item.specs.declared.Head.{Head}
-use Rattle.log_item.specs.declared.Head.the-variants as head
+use Rattle.log_item.specs.declared.HeadSize.{HeadSize}
+use Rattle.log_item.specs.declared.HeadSize.the-variants as head
 use Rattle.log_item.specs.declared.PartWrote.{PartWrote}
 use Rattle.log_item.specs.declared.PartWrote.the-variants as part
 use Rattle.log_item.specs.declared.ItemWrote.{ItemWrote}
@@ -23,11 +23,11 @@ use Rattle.log_item.specs.declared.ItemWrote.the-variants as item
 abbrev pub capped : ℕ → ℕ
 capped n = min n 4294967296
 
-abbrev pub headOf : ℕ → ℕ → ℕ → Head
+abbrev pub headOf : ℕ → ℕ → ℕ → HeadSize
 headOf r len count = ifNone r (head.Fine len count) (head.Refused r)
 
 -- the first refusal of an item but 16, or its length up to its tails and how many rows it uses
-unfoldable pub measureItem : List ℕ → Bool → ℕ → ℕ → LogItem → Head
+unfoldable pub measureItem : List ℕ → Bool → ℕ → ℕ → LogItem → HeadSize
 measureItem s checked used rows x =
     headOf (contentRefusal s checked used rows (x .content)) (capped (length (headBytes s x))) (entriesOf (x .content) .count)
 

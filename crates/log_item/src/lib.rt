@@ -127,7 +127,7 @@ pub enum TailRead {
 
 // The length of an item up to its tails, where all above 4,294,967,295 count as one more than that, and how many rows it uses; or why
 // it is refused.
-pub enum Head {
+pub enum HeadSize {
     Fine { len: usize, count: usize },
     Refused(u32),
 }

@@ -14,7 +14,7 @@ ghost use Rattle.log_item.specs.Written.{measureItem, PieceWritten, Item
 ghost use Rattle.log_item.specs.Private.{Room, Stored, tailsSize};
 use crate::Command;
 use crate::EntryIndexes;
-use crate::Head;
+use crate::HeadSize;
 use crate::ItemWrote;
 use crate::KeyValue;
 use crate::LogItem;
@@ -37,16 +37,16 @@ use codec::Wrote;
 
 impl LogItem {
     // What writing an item takes, where items before it use `used` of the `rows` that are lent; put keys are looked at where `checked`.
-    pub fn measure(item: LogItem, store: &[u8], checked: bool, used: usize, rows: usize) -> Head
+    pub fn measure(item: LogItem, store: &[u8], checked: bool, used: usize, rows: usize) -> HeadSize
         ensures { λ r. ⌜ r ≡ measureItem (now (store .entry)) checked used rows item ⌝ }
     {
         let content = item.content;
         let number = content_refusal(content, store, checked, used, rows);
         if number != refusal::NONE {
-            return Head::Refused(number);
+            return HeadSize::Refused(number);
         }
         let entries = item.entries();
-        Head::Fine {
+        HeadSize::Fine {
             len: codec::least(head_len(item), 4294967296),
             count: entries.count,
         }

@@ -1,4 +1,4 @@
-pub mod Place
+pub mod Sizes
 pub mod Machine
 pub mod Queues
 pub mod Runs

@@ -81,16 +81,9 @@ pub(crate) fn view(line: &[u8]) -> bool {
         offset: 16,
         len: length,
         entry_offset: 0,
-        entry_len: content_len(length),
+        entry_len: line::low(log_batch::sealed_len(length as usize) as u64),
     };
     content(line, row, line::front(&buf, n), b"")
-}
-
-fn content_len(length: u64) -> u32 {
-    if length < 4 {
-        return 0;
-    }
-    line::low(length - 4)
 }
 
 fn content<'a>(line: &[u8], row: Location, append: &'a [u8], rewrite: &'a [u8]) -> bool {

@@ -31,7 +31,7 @@ use Rattle.log_item.specs.Private.{Stored}
 use Rattle.log_item.proofs.Stores.{stored-none, stored-then, stored-length, stored-same}
 use Rattle.log_item.proofs.Pieces.{number-any, number-broken}
 use Rattle.log_batch.specs.Reading.{Answer, accepted, rejected, readItems}
-use Rattle.log_batch.proofs.Checking.{count-broken, count-many}
+use Rattle.log_batch.proofs.Checking.{count-broken, items-many}
 use Rattle.log_batch.proofs.FilledRows.{rows-take, rows-length}
 use Rattle.log_batch.proofs.Coming.{prepend, rest}
 use Rattle.log_batch.proofs.Filling.{Filling, not-done, begun, next-row, filling-row-refused, ended, next-item, filling-item-refused}
@@ -63,7 +63,7 @@ few {s} {items} {entries} {k} f e = go (leb k 256) refl
   where
     go : (b : Bool) → leb k 256 ≡ b → k ≤ 256
     go true h = leb-true k 256 h
-    go false h = never f (count-many Any s (sym (number-any s 0 refl e)) (leb-false k 256 h))
+    go false h = never f (items-many Any s (sym (number-any s 0 refl e)) (leb-false k 256 h))
 
 -- What stands in front of something is not longer than the whole.
 in-front : (xs : List LogItem) (rows : List EntryIndex) (a : Answer) {all : List LogItem} {more : List EntryIndex} {u q : ℕ}

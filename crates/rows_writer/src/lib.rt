@@ -11,7 +11,7 @@ ghost use Rattle.rows_writer.specs.Rows.{measureRows, rowsBytes};
 use item_row::ItemRowRead;
 use list_writer::Encoded;
 use list_writer::Measured;
-use log_item::Head;
+use log_item::HeadSize;
 use log_item::LogItem;
 
 // The first refusal of a body but 21, or its length and entry total.
@@ -44,10 +44,10 @@ pub fn measure_rows(items: &[u64], entries: &[u64], store: &[u8], checked: bool)
                     return list_writer::refuse(number, i);
                 }
                 ItemRowRead::Item(item) => match LogItem::measure(item, store, checked, j, rows) {
-                    Head::Refused(number) => {
+                    HeadSize::Refused(number) => {
                         return list_writer::refuse(number, i);
                     }
-                    Head::Fine { len, count: n } => {
+                    HeadSize::Fine { len, count: n } => {
                         size += len;
                         tails = n;
                         i += 1;

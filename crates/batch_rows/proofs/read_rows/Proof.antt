@@ -25,8 +25,8 @@ sub-read-body c = let f = front-known (now (c .before .before .before .before .b
 sub-read-body-2 : tie.Need-sub-read-body-2
 sub-read-body-2 c = let f = front-known (now (c .before .before .before .before .before .before .before .args .buf)) (learnt headerGot (c .before .before .before .check-front .ensures) (c .before .batch .given .1)) in omega (arith, f .start, f .inside, f .there)
 
-content-len-requires : tie.Need-content-len-requires
-content-len-requires c κs = search needs
+sealed-len-requires : tie.Need-sealed-len-requires
+sealed-len-requires c κs = search needs
 
 sub-read-body-3 : tie.Need-sub-read-body-3
 sub-read-body-3 c = let f = front-known (now (c .before .before .before .before .before .before .before .before .args .buf)) (learnt headerGot (c .before .before .before .before .check-front .ensures) (c .before .before .batch .given .1)) in omega (arith, f .start, f .inside, f .there)
@@ -53,7 +53,7 @@ same-length-2 : tie.Need-same-length-2
 same-length-2 c = search needs
 
 returns-2 : tie.Need-returns-2
-returns-2 c = rows-read _ _ _ _ (learnt headerGot (c .before .before .before .before .before .before .before .before .before .before .before .before .before .check-front .ensures) (c .before .before .before .before .before .before .before .before .before .before .before .batch .given .1)) (c .before .before .before .before .before .before .before .before .before .content-len .ensures) (c .before .before .before .before .before .read-body .ensures) (c .with-places .ensures)
+returns-2 c = rows-read _ _ _ _ (learnt headerGot (c .before .before .before .before .before .before .before .before .before .before .before .before .before .check-front .ensures) (c .before .before .before .before .before .before .before .before .before .before .before .batch .given .1)) (c .before .before .before .before .before .before .before .before .before .sealed-len .ensures) (c .before .before .before .before .before .read-body .ensures) (c .with-places .ensures)
 
 pub read-rows-spec : {M : Type 1} → statement M
 read-rows-spec =
@@ -64,7 +64,7 @@ read-rows-spec =
     enum-known-batch
     sub-read-body
     sub-read-body-2
-    content-len-requires
+    sealed-len-requires
     sub-read-body-3
     part-read-body-start
     part-read-body-end

@@ -15,11 +15,11 @@ use Rattle.item_reader.proofs.next_row.Tie as tie
 returns : tie.Need-returns
 returns c = row-end _ _ (c .if1 .taken)
 
-content-len-requires : tie.Need-content-len-requires
-content-len-requires c κs = search needs
+sealed-len-requires : tie.Need-sealed-len-requires
+sealed-len-requires c κs = search needs
 
 slice-aggregate-decode-tail : tie.Need-slice-aggregate-decode-tail
-slice-aggregate-decode-tail c = sym (length-take-le _ _ (omega (arith, c .before .content-len .ensures)))
+slice-aggregate-decode-tail c = sym (length-take-le _ _ (omega (arith, c .before .sealed-len .ensures)))
 
 decode-tail-requires : tie.Need-decode-tail-requires
 decode-tail-requires c κs = search needs
@@ -40,17 +40,17 @@ enum-known-number : tie.Need-enum-known-number
 enum-known-number c = search needs
 
 returns-2 : tie.Need-returns-2
-returns-2 c = row-next _ _ (c .before .before .before .before .before .before .content-len .ensures) (c .before .before .before .before .before .before .before .if1 .left) (learnt tailGot (c .before .before .before .before .decode-tail .ensures) (c .before .before .after .given .1)) (c .wrapping-add-u64 .ensures)
+returns-2 c = row-next _ _ (c .before .before .before .before .before .before .sealed-len .ensures) (c .before .before .before .before .before .before .before .if1 .left) (learnt tailGot (c .before .before .before .before .decode-tail .ensures) (c .before .before .after .given .1)) (c .wrapping-add-u64 .ensures)
 
 returns-3 : tie.Need-returns-3
-returns-3 c = row-refused _ _ (c .before .before .before .before .before .content-len .ensures) (c .before .before .before .before .before .before .if1 .left) (learnt tailGot (c .before .before .before .decode-tail .ensures) (c .before .number .given .1))
+returns-3 c = row-refused _ _ (c .before .before .before .before .before .sealed-len .ensures) (c .before .before .before .before .before .before .if1 .left) (learnt tailGot (c .before .before .before .decode-tail .ensures) (c .before .number .given .1))
 
 pub next-row-spec : {M : Type 1} → statement M
 next-row-spec =
     tie.close
     (tie.spec
     returns
-    content-len-requires
+    sealed-len-requires
     slice-aggregate-decode-tail
     decode-tail-requires
     enum-known-after

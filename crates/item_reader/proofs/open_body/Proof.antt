@@ -14,11 +14,11 @@ check-requires c κs = search needs
 enum-known-items : tie.Need-enum-known-items
 enum-known-items c = search needs
 
-content-len-requires : tie.Need-content-len-requires
-content-len-requires c κs = search needs
+sealed-len-requires : tie.Need-sealed-len-requires
+sealed-len-requires c κs = search needs
 
 slice-aggregate-after-count : tie.Need-slice-aggregate-after-count
-slice-aggregate-after-count c = sym (length-take-le _ _ (omega (arith, c .before .content-len .ensures)))
+slice-aggregate-after-count c = sym (length-take-le _ _ (omega (arith, c .before .sealed-len .ensures)))
 
 after-count-requires : tie.Need-after-count-requires
 after-count-requires c κs = search needs
@@ -27,7 +27,7 @@ enum-known-why : tie.Need-enum-known-why
 enum-known-why c = search needs
 
 returns : tie.Need-returns
-returns c = opens _ _ (sym (c .before .before .before .before .items .given .1) ∙ c .before .before .before .before .before .before .check .ensures) (c .before .before .content-len .ensures) (c .after-count .ensures)
+returns c = opens _ _ (sym (c .before .before .before .before .items .given .1) ∙ c .before .before .before .before .before .before .check .ensures) (c .before .before .sealed-len .ensures) (c .after-count .ensures)
 
 returns-2 : tie.Need-returns-2
 returns-2 c = opens-refused _ _ (sym (c .before .why .given .1) ∙ c .before .before .before .check .ensures)
@@ -38,7 +38,7 @@ open-body-spec =
     (tie.spec
     check-requires
     enum-known-items
-    content-len-requires
+    sealed-len-requires
     slice-aggregate-after-count
     after-count-requires
     enum-known-why

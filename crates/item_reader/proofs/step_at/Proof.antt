@@ -22,11 +22,11 @@ stay-requires-2 c κs = search needs
 returns-2 : tie.Need-returns-2
 returns-2 c = step-end _ _ _ _ _ _ _ (c .before .before .if1 .left) (c .before .if2 .taken) (c .stay2 .ensures)
 
-content-len-requires : tie.Need-content-len-requires
-content-len-requires c κs = search needs
+sealed-len-requires : tie.Need-sealed-len-requires
+sealed-len-requires c κs = search needs
 
 slice-aggregate-decode : tie.Need-slice-aggregate-decode
-slice-aggregate-decode c = sym (length-take-le _ _ (omega (arith, c .before .content-len .ensures)))
+slice-aggregate-decode c = sym (length-take-le _ _ (omega (arith, c .before .sealed-len .ensures)))
 
 decode-requires : tie.Need-decode-requires
 decode-requires c κs = search needs
@@ -48,11 +48,11 @@ stay-requires-3 c κs = search needs
 
 returns-3 : tie.Need-returns-3
 returns-3 c =
-    step-over _ _ _ _ _ _ _ (c .before .before .before .before .before .before .before .before .if1 .left) (c .before .before .before .before .before .before .before .if2 .left) (c .before .before .before .before .before .before .content-len .ensures)
+    step-over _ _ _ _ _ _ _ (c .before .before .before .before .before .before .before .before .if1 .left) (c .before .before .before .before .before .before .before .if2 .left) (c .before .before .before .before .before .before .sealed-len .ensures)
     (learnt itemGot (c .before .before .before .before .decode .ensures) (c .before .before .found .given .1)) (c .handed-out .ensures)
 
 returns-4 : tie.Need-returns-4
-returns-4 c = step-broken _ _ _ _ _ _ _ (c .before .before .before .before .before .before .before .before .if1 .left) (c .before .before .before .before .before .before .before .if2 .left) (c .before .before .before .before .before .before .content-len .ensures) (learnt itemGot (c .before .before .before .before .decode .ensures) (c .before .before .number .given .1)) (c .stay3 .ensures)
+returns-4 c = step-broken _ _ _ _ _ _ _ (c .before .before .before .before .before .before .before .before .if1 .left) (c .before .before .before .before .before .before .before .if2 .left) (c .before .before .before .before .before .before .sealed-len .ensures) (learnt itemGot (c .before .before .before .before .decode .ensures) (c .before .before .number .given .1)) (c .stay3 .ensures)
 
 pub step-at-spec : {M : Type 1} → statement M
 step-at-spec =
@@ -62,7 +62,7 @@ step-at-spec =
     returns
     stay-requires-2
     returns-2
-    content-len-requires
+    sealed-len-requires
     slice-aggregate-decode
     decode-requires
     enum-known-found

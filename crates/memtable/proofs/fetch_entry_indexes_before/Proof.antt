@@ -49,7 +49,7 @@ use Rattle.memtable.specs.Rows.{runOf}
 use Rattle.memtable.specs.Table.{wellFormed}
 use Rattle.location_answers.specs.Decisions.{fetched}
 use Rattle.memtable.specs.Fetching.{fetchOf}
-use Rattle.memtable.proofs.Place.{cut-le}
+use Rattle.memtable.proofs.Sizes.{cut-le}
 use Rattle.memtable.proofs.Surveys.{fetched-by}
 use Rattle.by_hand.proofs.Locals.{tyAt}
 use Rattle.memtable.proofs.Machine.{R, valT, valS}

@@ -48,7 +48,7 @@ use Rattle.location_rules.specs.declared.Stop.{Stop}
 use Rattle.memtable.specs.Rows.{runOf}
 use Rattle.memtable.specs.Table.{wellFormed}
 use Rattle.location_rules.specs.Parts.{wellFormedBy}
-use Rattle.memtable.proofs.Place.{cut-le}
+use Rattle.memtable.proofs.Sizes.{cut-le}
 use Rattle.memtable.proofs.Surveys.{formed-by}
 use Rattle.by_hand.proofs.Locals.{tyAt}
 use Rattle.memtable.proofs.Machine.{R, valT, valS, is-append, is-rewrite}

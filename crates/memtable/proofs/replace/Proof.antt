@@ -52,7 +52,7 @@ use denote.Exit.{yes}
 use Rattle.pipe_log.specs.declared.Location.{Location}
 use Rattle.memtable.proofs.Runs.{noRow}
 use Rattle.memtable.proofs.Machine.{R}
-use Rattle.memtable.proofs.Place.{reach, within}
+use Rattle.memtable.proofs.Sizes.{reach, within}
 use borrow.Author.Tests.{lt-ltb, le-ltb}
 use Rattle.by_hand.proofs.Loop.{step-fits, counted-loop}
 use Rattle.pipe_log.proofs.Location as T

@@ -54,7 +54,7 @@ use Rattle.location_rules.specs.declared.Stop.{Stop}
 use Rattle.location_rules.specs.Row.{stopsAt}
 use Rattle.by_hand.proofs.Locals.{tyAt}
 use Rattle.memtable.proofs.Machine.{R, valR, valS}
-use Rattle.memtable.proofs.Place.{reach}
+use Rattle.memtable.proofs.Sizes.{reach}
 use borrow.Author.Tests.{lt-ltb, le-ltb}
 use Rattle.by_hand.proofs.Loop.{step-fits, counted-loop}
 use Rattle.memtable.proofs.Runs.{noRow, runFrom, run-none, stopped, goes-on}

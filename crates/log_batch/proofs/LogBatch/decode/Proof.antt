@@ -45,20 +45,20 @@ returns c = table-stays _ _ (learnt headerGot (c .before .before .before .before
 cast-if2 : tie.Need-cast-if2
 cast-if2 c = search needs
 
-content-len-requires : tie.Need-content-len-requires
-content-len-requires c κs = search needs
+sealed-len-requires : tie.Need-sealed-len-requires
+sealed-len-requires c κs = search needs
 
 empty-requires-2 : tie.Need-empty-requires-2
 empty-requires-2 c κs = search needs
 
 returns-2 : tie.Need-returns-2
-returns-2 c = table-differs _ _ (learnt headerGot (c .before .before .before .before .before .before .before .before .before .before .before .check-front .ensures) (c .before .before .before .before .before .before .before .before .before .batch .given .1)) _ _ (c .before .before .before .before .before .before .decode .ensures) (c .before .before .before .before .if1 .left) (c .before .before .content-len .ensures) (c .before .if2 .taken) (c .empty2 .ensures)
+returns-2 c = table-differs _ _ (learnt headerGot (c .before .before .before .before .before .before .before .before .before .before .before .check-front .ensures) (c .before .before .before .before .before .before .before .before .before .batch .given .1)) _ _ (c .before .before .before .before .before .before .decode .ensures) (c .before .before .before .before .if1 .left) (c .before .before .sealed-len .ensures) (c .before .if2 .taken) (c .empty2 .ensures)
 
 returns-3 : tie.Need-returns-3
 returns-3 c = table-refused _ _ (learnt headerGot (c .before .before .before .before .check-front .ensures) (c .before .before .number .given .1)) (c .empty .ensures)
 
 returns-4 : tie.Need-returns-4
-returns-4 c = table-placed _ _ (learnt headerGot (c .before .before .before .before .before .before .before .before .before .before .check-front .ensures) (c .before .before .before .before .before .before .before .before .batch .given .1)) _ _ (c .before .before .before .before .before .decode .ensures) (c .before .before .before .if1 .left) (c .before .content-len .ensures) (c .if2 .left)
+returns-4 c = table-placed _ _ (learnt headerGot (c .before .before .before .before .before .before .before .before .before .before .check-front .ensures) (c .before .before .before .before .before .before .before .before .batch .given .1)) _ _ (c .before .before .before .before .before .decode .ensures) (c .before .before .before .if1 .left) (c .before .sealed-len .ensures) (c .if2 .left)
 
 pub decode-spec : {M : Type 1} → statement M
 decode-spec =
@@ -76,7 +76,7 @@ decode-spec =
     decode-requires
     returns
     cast-if2
-    content-len-requires
+    sealed-len-requires
     empty-requires-2
     returns-2
     returns-3

@@ -6,7 +6,7 @@ use mathlib.Core.Path.{_≡_, refl, sym}
 use Rattle.log_item.specs.Answers.{headGot, tailGot}
 use Rattle.log_item.specs.declared.Form.the-variants.{Any}
 use Rattle.log_item.proofs.Pieces.{learnt, number-any, number-broken}
-use Rattle.log_batch.proofs.Checking.{count-broken, count-many}
+use Rattle.log_batch.proofs.Checking.{count-broken, items-many}
 use Rattle.log_item.proofs.Known.{tail-known, head-room}
 use Rattle.log_batch.proofs.Filling.{Filling, not-done, begun, next-row, filling-row-refused, ended, next-item, filling-item-refused}
 use Rattle.log_batch.proofs.Tables.{refused-table, filled}
@@ -45,7 +45,7 @@ returns-2 : tie.Need-returns-2 Inv-loop μ-loop
 returns-2 c =
     let value = c .before .before .before in
     refused-table _ _ (c .empty2 .ensures)
-    (count-many _ _ (sym (number-any _ _ refl (learnt (λ r. r) (value .before .before .decode-var-u64 .ensures) (value .value .given .1)))) (c .before .if1 .taken))
+    (items-many _ _ (sym (number-any _ _ refl (learnt (λ r. r) (value .before .before .decode-var-u64 .ensures) (value .value .given .1)))) (c .before .if1 .taken))
 
 empty-requires-3 : tie.Need-empty-requires-3 Inv-loop μ-loop
 empty-requires-3 c κs = search needs

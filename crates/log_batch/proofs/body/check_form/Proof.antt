@@ -4,7 +4,7 @@ use mathlib.Core.Path.{sym, ap, _∙_}
 use Rattle.log_item.specs.Answers.{fieldGot}
 use Rattle.log_item.proofs.Pieces.{learnt}
 use Rattle.log_batch.specs.Answers.{checkOf}
-use Rattle.log_batch.proofs.Checking.{count-broken, count-many, count-good}
+use Rattle.log_batch.proofs.Checking.{count-broken, items-many, count-good}
 use borrow.Author.Needs.{needs}
 use Rattle.log_batch.proofs.body.check_form.Statement.{statement}
 use Rattle.log_batch.proofs.body.check_form.Tie as tie
@@ -16,7 +16,7 @@ enum-known-value : tie.Need-enum-known-value
 enum-known-value c = search needs
 
 returns : tie.Need-returns
-returns c = ap checkOf (sym (count-many _ _ (learnt fieldGot (c .before .before .before .before .read-number .ensures) (c .before .before .value .given .1)) (c .if1 .taken)))
+returns c = ap checkOf (sym (items-many _ _ (learnt fieldGot (c .before .before .before .before .read-number .ensures) (c .before .before .value .given .1)) (c .if1 .taken)))
 
 check-from-requires : tie.Need-check-from-requires
 check-from-requires c κs = search needs

@@ -15,17 +15,17 @@ check-block-requires c κs = search needs
 returns-2 : tie.Need-returns-2
 returns-2 c = entry-broken _ _ _ _ (c .before .before .if1 .left) (c .before .check-block .ensures) (c .if2 .taken)
 
-content-len-requires : tie.Need-content-len-requires
-content-len-requires c κs = search needs
+sealed-len-requires : tie.Need-sealed-len-requires
+sealed-len-requires c κs = search needs
 
 returns-3 : tie.Need-returns-3
-returns-3 c = entry-outside _ _ _ _ (c .before .before .before .before .if1 .left) (c .before .before .before .check-block .ensures) (c .before .before .if2 .left) (c .before .content-len .ensures) (omega arith)
+returns-3 c = entry-outside _ _ _ _ (c .before .before .before .before .if1 .left) (c .before .before .before .check-block .ensures) (c .before .before .if2 .left) (c .before .sealed-len .ensures) (omega arith)
 
 returns-4 : tie.Need-returns-4
-returns-4 c = entry-outside _ _ _ _ (c .before .before .before .before .before .if1 .left) (c .before .before .before .before .check-block .ensures) (c .before .before .before .if2 .left) (c .before .before .content-len .ensures) (omega arith)
+returns-4 c = entry-outside _ _ _ _ (c .before .before .before .before .before .if1 .left) (c .before .before .before .before .check-block .ensures) (c .before .before .before .if2 .left) (c .before .before .sealed-len .ensures) (omega arith)
 
 returns-5 : tie.Need-returns-5
-returns-5 c = entry-inside _ _ _ _ (c .before .before .before .before .before .if1 .left) (c .before .before .before .before .check-block .ensures) (c .before .before .before .if2 .left) (c .before .before .content-len .ensures) (omega arith)
+returns-5 c = entry-inside _ _ _ _ (c .before .before .before .before .before .if1 .left) (c .before .before .before .before .check-block .ensures) (c .before .before .before .if2 .left) (c .before .before .sealed-len .ensures) (omega arith)
 
 pub check-entry-spec : {M : Type 1} → statement M
 check-entry-spec =
@@ -34,7 +34,7 @@ check-entry-spec =
     returns
     check-block-requires
     returns-2
-    content-len-requires
+    sealed-len-requires
     returns-3
     returns-4
     returns-5)

@@ -3,7 +3,7 @@
 use Rattle.log_item.specs.Answers.{headGot, tailGot}
 use Rattle.log_item.proofs.Pieces.{learnt}
 use Rattle.log_item.proofs.Known.{head-room}
-use Rattle.log_item.proofs.Passing.{item-done, item-no-tails, item-no-head}
+use Rattle.log_item.proofs.Counted.{item-done, item-no-tails, item-no-head}
 use native.Mathlib.Omega.{arith}
 use borrow.Author.Needs.{needs}
 use Rattle.log_item.proofs.LogItem.decode.Statement.{statement}

@@ -2,7 +2,7 @@
 -- Assumes nothing.
 use denote.Ref.{now}
 use borrow.Author.Tests.{not-true, not-false}
-use Rattle.log_item.proofs.Items.{encode-refused, rows-lent, encode-over, encode-short, head-ready, tails-ready, encode-done}
+use Rattle.log_item.proofs.Written.{encode-refused, rows-lent, encode-over, encode-short, head-ready, tails-ready, encode-done}
 use native.Mathlib.Omega.{arith}
 use borrow.Author.Needs.{needs}
 use Rattle.log_item.proofs.LogItem.encode.Statement.{statement}

@@ -1,6 +1,6 @@
 -- `log_item::LogItem::measure` meets its contract.
 -- Assumes nothing.
-use Rattle.log_item.proofs.Items.{measure-refused, measure-fine}
+use Rattle.log_item.proofs.Written.{measure-refused, measure-fine}
 use borrow.Author.Needs.{needs}
 use Rattle.log_item.proofs.LogItem.measure.Statement.{statement}
 use Rattle.log_item.proofs.LogItem.measure.Tie as tie

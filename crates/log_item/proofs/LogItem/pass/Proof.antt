@@ -3,7 +3,7 @@
 use mathlib.Core.Path.{_∙_}
 use Rattle.log_item.specs.Answers.{fieldGot}
 use Rattle.log_item.proofs.Pieces.{learnt}
-use Rattle.log_item.proofs.Going.{item-content, item-no-type, item-no-group}
+use Rattle.log_item.proofs.Passing.{item-content, item-no-type, item-no-group}
 use borrow.Author.Needs.{needs}
 use Rattle.log_item.proofs.LogItem.pass.Statement.{statement}
 use Rattle.log_item.proofs.LogItem.pass.Tie as tie

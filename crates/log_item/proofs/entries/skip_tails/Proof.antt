@@ -4,7 +4,7 @@ use mathlib.Core.Path.{_≡_, refl, sym, _∙_}
 use Rattle.log_item.specs.Answers.{fieldGot, passTails}
 use Rattle.log_item.proofs.Pieces.{learnt}
 use Rattle.log_item.proofs.Reading.{tail-large, tail-falls, tail-done, tail-refused}
-use Rattle.log_item.proofs.Passing.{pass-end, pass-next, pass-stop}
+use Rattle.log_item.proofs.Counted.{pass-end, pass-next, pass-stop}
 use borrow.Author.Needs.{needs}
 use native.Mathlib.Omega.{arith}
 use Rattle.log_item.proofs.entries.skip_tails.Statement.{statement}

@@ -4,7 +4,7 @@ use mathlib.Core.Path.{refl, _∙_}
 use Rattle.log_item.specs.Private.{commandGot, keyValueGot}
 use Rattle.log_item.proofs.Pieces.{learnt}
 use Rattle.log_item.proofs.Reading.{content-command, content-no-command, content-key, content-no-key, content-unknown}
-use Rattle.log_item.proofs.Going.{passed-entries, passed-none, passed-stop}
+use Rattle.log_item.proofs.Passing.{passed-entries, passed-none, passed-stop}
 use borrow.Author.Needs.{needs}
 use Rattle.log_item.proofs.pass.pass_content.Statement.{statement}
 use Rattle.log_item.proofs.pass.pass_content.Tie as tie

@@ -4,7 +4,7 @@ use Rattle.log_item.specs.Answers.{fieldGot, tailGot}
 use Rattle.log_item.specs.Private.{entriesGot}
 use Rattle.log_item.proofs.Pieces.{learnt}
 use Rattle.log_item.proofs.Known.{count-known}
-use Rattle.log_item.proofs.Going.{pass-no-count, pass-no-first, pass-rows, pass-no-rows}
+use Rattle.log_item.proofs.Passing.{pass-no-count, pass-no-first, pass-rows, pass-no-rows}
 use native.Mathlib.Omega.{arith}
 use borrow.Author.Needs.{needs}
 use Rattle.log_item.proofs.pass.pass_entries.Statement.{statement}

@@ -18,7 +18,7 @@ use Rattle.log_item.specs.Written.{capped, measureItem, sumOf, rowLength
 use Rattle.log_item.specs.Private.{Room, Stored, fitted, headLength, tailsSize}
 use Rattle.log_item.specs.declared.TailsSize.{TailsSize}
 use Rattle.log_item.specs.declared.TailsSize.the-variants.{Fine, TooLarge}
-use Rattle.log_item.specs.declared.Head.the-variants as head
+use Rattle.log_item.specs.declared.HeadSize.the-variants as head
 use Rattle.log_item.specs.declared.ItemWrote.the-variants as item
 use Rattle.log_item.proofs.Stores.{room-first, room-then, room-told, short-told, stored-then}
 use Rattle.log_item.proofs.Lengths.{head-length}
