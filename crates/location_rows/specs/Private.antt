@@ -1,4 +1,4 @@
--- What the contracts of private functions cite: no public contract does.
+-- What the contracts of private functions cite: this file serves them alone, and no public contract.
 -- Assumes nothing.
 use Prim.Native.Nat.{ℕ}
 use mathlib.Core.Bool.{Bool, _&&_}

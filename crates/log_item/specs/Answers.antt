@@ -1,5 +1,5 @@
--- What each answer of the code says in the words of the definitions: two answers that say the same are the same. And, for what makes no rows, the
--- readings with the rows forgotten.
+-- What each answer of the code says in the words of the definitions: two answers that say the same are the same. And, for what makes no rows
+-- or no item, the readings with these forgotten.
 -- Assumes nothing.
 use Prim.Native.Nat.{ℕ, _+_}
 use mathlib.Core.List.{List}
@@ -58,12 +58,12 @@ countedItem form s e t = do
   (rows, u) ← tails form s (entriesOf (x .content) .count) (entriesOf (x .content) .«first_index») t
   done (record { item = x; tailsAt = p; total = u; used = e + length rows })
 
--- the total and the number of entries after an item that was gone over
+-- what going over an item answers
 abbrev pub passedGot : Passed → Got (ℕ × ℕ)
 passedGot (passed.Done q u e) = got (u, e) q
 passedGot (passed.Refused r) = refused r
 
--- an item with what it is forgotten
+-- the total and the number of entries after an item, with what it is forgotten
 unfoldable pub passItem : Form → List ℕ → ℕ → ℕ → Reading (ℕ × ℕ)
 passItem form s e t = do
   r ← countedItem form s e t

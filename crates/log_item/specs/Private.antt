@@ -99,5 +99,6 @@ itemContentLength (contents.Kv k) = opLength (k .key) (k .op)
 unfoldable pub headLength : LogItem → ℕ
 headLength x = length (shortest (x .«raft_group_id»)) + (1 + itemContentLength (x .content))
 
+-- the length of tails and the total after them, or that one is too large
 unfoldable pub tailsSize : List ℕ → ℕ → TailsSize
 tailsSize lengths t = cond (tailAbove lengths t) TooLarge (Fine (fitted (length (tailsBytes lengths t))) (sumOf t lengths))

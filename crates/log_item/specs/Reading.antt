@@ -25,6 +25,27 @@ pub record Read : Type 0 where
   pub total : ℕ
 
 module _ (form : Form) (s : List ℕ) where
+  -- a count of entries, with e before them in the batch
+  unfoldable pub entryCount : ℕ → Reading ℕ
+  entryCount e = do
+    n ← number form s
+    leb (e + n) 1024 else 14
+    done n
+
+  -- if n > 0 the first index
+  unfoldable pub firstIndex : ℕ → Reading EntryIndexes
+  firstIndex zero = done (record { count = 0; «first_index» = 0 })
+  firstIndex (suc n) = do
+    i ← number form s
+    leb (i + n) 18446744073709551615 else 17
+    done (record { count = suc n; «first_index» = i })
+
+  -- the count and the first index
+  unfoldable pub entryIndexes : ℕ → Reading EntryIndexes
+  entryIndexes e = do
+    n ← entryCount e
+    firstIndex n
+
   -- 1 clean, or 2 compact and an index
   unfoldable pub command : Reading Command
   command = do
@@ -47,27 +68,6 @@ module _ (form : Form) (s : List ℕ) where
     cond (eqb b 1) putAt
         (cond (eqb b 2) (do k ← span form s; done (record { key = k; op = Del }))
         (refuse 12))
-
-  -- if n > 0 the first index
-  unfoldable pub firstIndex : ℕ → Reading EntryIndexes
-  firstIndex zero = done (record { count = 0; «first_index» = 0 })
-  firstIndex (suc n) = do
-    i ← number form s
-    leb (i + n) 18446744073709551615 else 17
-    done (record { count = suc n; «first_index» = i })
-
-  -- a count of entries, with e before them in the batch
-  unfoldable pub entryCount : ℕ → Reading ℕ
-  entryCount e = do
-    n ← number form s
-    leb (e + n) 1024 else 14
-    done n
-
-  -- the count and the first index
-  unfoldable pub entryIndexes : ℕ → Reading EntryIndexes
-  entryIndexes e = do
-    n ← entryCount e
-    firstIndex n
 
   -- the content of an item of type b, up to its tails
   unfoldable pub content : ℕ → ℕ → Reading LogItemContent

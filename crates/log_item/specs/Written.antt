@@ -65,7 +65,8 @@ rowLengths x lengths = take (entriesOf (x .content) .count) lengths
 unfoldable pub itemBytes : List ℕ → LogItem → List ℕ → ℕ → List ℕ
 itemBytes s x lengths t = headBytes s x ++ tailsBytes (rowLengths x lengths) t
 
--- A tail is above 4,294,967,295. No tail is below the one before it, so that is where the last one is, which is the total behind the lengths.
+-- A tail is above 4,294,967,295. No tail is below the one before it, so that is where the last one is, which is the total behind the lengths. With no
+-- lengths it is the total before them, which no caller has above that.
 abbrev pub tailAbove : List ℕ → ℕ → Bool
 tailAbove lengths t = ltb 4294967295 (sumOf t lengths)
 

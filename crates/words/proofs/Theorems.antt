@@ -1,4 +1,4 @@
--- What document 01 says of words, proved of the definitions that the contracts cite.
+-- A word that was written is read back, proved of the definitions that the contracts cite.
 -- Assumes nothing.
 use Prim.Native.Nat.{ℕ, _+_, _^_, _≤_, _<_}
 use mathlib.Core.Path.{_≡_, ap, _∙_}
