@@ -20,7 +20,8 @@ use Rattle.log_batch.specs.Spelling.{Items, end, then, Spells, list}
 use Rattle.log_batch.specs.Acceptable.{Begins}
 use Rattle.log_batch.specs.Rows.{Joined, Indexed}
 use Rattle.log_batch.specs.Rows as lie
-use Rattle.log_item.specs.Place.{At, Found, Asks}
+use Rattle.words.specs.Place.{At, Found}
+use Rattle.log_item.specs.Place.{Asks}
 use Rattle.log_item.proofs.Holds.{Says, holds, after, if-most}
 use Rattle.log_item.proofs.Place.{join, cut, at-nothing, at-front}
 use Rattle.log_item.proofs.Numbers.{complete-number, sound-number, number-some, in-any}

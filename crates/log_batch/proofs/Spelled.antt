@@ -25,7 +25,7 @@ use Rattle.log_item.specs.Limits.{RowFits}
 use Rattle.log_batch.specs.Limits.{Within}
 use Rattle.log_item.specs.Spelling.{NumberIn}
 use Rattle.log_batch.specs.Spelling.{Items, end, then, Spells, list}
-use Rattle.log_item.specs.Place.{At}
+use Rattle.words.specs.Place.{At}
 use Rattle.log_item.specs.declared.Form.the-variants.{Any, Plain}
 use Rattle.log_item.specs.declared.LogItemContent.{LogItemContent}
 use Rattle.log_item.specs.declared.LogItemContent.the-variants as contents

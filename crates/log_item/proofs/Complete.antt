@@ -16,7 +16,7 @@ use Rattle.log_item.specs.Got.{got}
 use Rattle.log_item.specs.Each.{Each, one}
 use Rattle.log_item.specs.Limits.{RowFits}
 use Rattle.log_item.specs.Spelling.{NumberIn, Spanned, spanned, Contents, no-entries, entries, clean, compact, put, delete, Tails, no-more, next, OneItem, item}
-use Rattle.log_item.specs.Place.{At}
+use Rattle.words.specs.Place.{At}
 use Rattle.log_item.specs.Pieces.{span}
 use Rattle.log_item.specs.Reading.{command, putAt, keyValue, firstIndex, entryCount, entryIndexes, content, head, tail, tails, oneItem}
 use Rattle.log_item.proofs.Place.{cut, at-inside, complete-byte}

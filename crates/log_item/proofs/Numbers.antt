@@ -1,11 +1,10 @@
 -- Numbers in a form: what is read is what is spelled.
 -- Assumes nothing.
 use Prim.Native.Nat.{ℕ, _+_, _<_}
-use mathlib.Core.Path.{_≡_, refl, sym, ap, _∙_}
-use mathlib.Core.List.{List, _++_}
+use mathlib.Core.Path.{_≡_, refl, ap, _∙_}
+use mathlib.Core.List.{List}
 use native.Mathlib.Omega.{arith}
-use lib.ListN.{length, drop}
-use lib.Seq.{drop-drop, drop-append-seam}
+use lib.ListN.{length}
 use borrow.Author.Tests.{eq-eqb}
 use Rattle.numbers.specs.declared.NumberRead.{NumberRead}
 use Rattle.numbers.specs.declared.NumberRead.the-variants.{Done, Eof, Overflow}
@@ -18,7 +17,8 @@ use Rattle.log_item.specs.declared.Form.{Form}
 use Rattle.log_item.specs.declared.Form.the-variants.{Any, Plain}
 use Rattle.log_item.specs.Got.{got}
 use Rattle.log_item.specs.Spelling.{NumberIn}
-use Rattle.log_item.specs.Place.{At, Found, Asks}
+use Rattle.words.specs.Place.{At, Found}
+use Rattle.log_item.specs.Place.{Asks}
 use Rattle.log_item.specs.Pieces.{numberGot, number}
 use Rattle.log_item.proofs.Holds.{Says, holds, says, after, if-equal}
 use Rattle.words.specs.Byte.{Bytes}
@@ -39,7 +39,7 @@ number-some form n x h = groups-pos (in-any form n x h .groups)
 
 -- A number in any spelling is read.
 complete-any : {s : List ℕ} {n : ℕ} {x : List ℕ} → SpellsNumber n x → {p q : ℕ} → At s p q x → readNumber s p ≡ Done n q
-complete-any {s} {n} {x} h {p} {q} f = read-iff-stands s p n q .1 (record { bytes = x; rest = drop q s; spells = h; there = f .stand; after = f .ends })
+complete-any {s} {n} {x} h {p} {q} f = read-iff-stands s p n q .1 (record { bytes = x; at = f; has = h })
 
 -- A number that is spelled at a place is read there.
 pub complete-number : (form : Form) {s : List ℕ} {n : ℕ} {x : List ℕ} → NumberIn form n x → {p q : ℕ} → At s p q x → number form s p ≡ got n q
@@ -54,12 +54,7 @@ sound-any : (s : List ℕ) (p : ℕ) → Says (λ n q. Found s (SpellsNumber n) 
 sound-any s p = go (readNumber s p) refl
   where
     go : (r : NumberRead) → readNumber s p ≡ r → Says (λ n q. Found s (SpellsNumber n) p q) (numberGot r)
-    go (Done n q) e =
-        let h = read-iff-stands s p n q .0 e in
-        let rest : drop q s ≡ h .rest =
-        ap (λ k. drop k s) (h .after) ∙ sym (drop-drop (length (h .bytes)) p s) ∙ ap (drop (length (h .bytes))) (h .there) ∙ drop-append-seam (h .bytes) (h .rest) in
-        let stand : drop p s ≡ h .bytes ++ drop q s = rw rest (h .there) in
-        holds (record { bytes = h .bytes; at = record { stand = stand; ends = h .after }; has = h .spells })
+    go (Done n q) e = holds (read-iff-stands s p n q .0 e)
     go Eof e = says _
     go Overflow e = says _
 

@@ -13,7 +13,7 @@ use Rattle.words.proofs.Bytes.{bytes-front, bytes-drop}
 use Rattle.log_item.specs.Got.{got}
 use Rattle.log_item.specs.Pieces.{byte}
 use Rattle.log_item.proofs.Holds.{Says, holds, if-below}
-use Rattle.log_item.specs.Place.{At}
+use Rattle.words.specs.Place.{At}
 
 -- Bytes with others behind them begin them.
 pub at-front : (x y : List ℕ) → At (x ++ y) 0 (length x) x

@@ -16,7 +16,8 @@ use Rattle.log_item.specs.Each.{Each, one}
 use Rattle.log_item.specs.Each as every
 use Rattle.log_item.specs.Limits.{RowFits}
 use Rattle.log_item.specs.Spelling.{NumberIn, Spanned, spanned, Contents, no-entries, entries, clean, compact, put, delete, Tails, no-more, next, item}
-use Rattle.log_item.specs.Place.{At, Found, Asks, ItemSpelled}
+use Rattle.words.specs.Place.{At, Found}
+use Rattle.log_item.specs.Place.{Asks, ItemSpelled}
 use Rattle.log_item.specs.Pieces.{span}
 use Rattle.log_item.specs.Reading.{command, putAt, keyValue, firstIndex, entryCount, entryIndexes, head, tail, tails, oneItem}
 use Rattle.log_item.specs.Reading as reading

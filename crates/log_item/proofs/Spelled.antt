@@ -16,7 +16,7 @@ use Rattle.log_item.specs.Entries.{entriesOf, typeOf}
 use Rattle.log_item.specs.Each.{Each, none, one}
 use Rattle.log_item.specs.Limits.{RowFits}
 use Rattle.log_item.specs.Spelling.{NumberIn, Spanned, spanned, Contents, no-entries, entries, clean, compact, put, delete, Tails, no-more, next, OneItem, item}
-use Rattle.log_item.specs.Place.{At}
+use Rattle.words.specs.Place.{At}
 use Rattle.log_item.specs.Private.{Room}
 use Rattle.log_item.specs.Prefix.{bytesOf, inside}
 use Rattle.log_item.specs.Reading.{oneItem}

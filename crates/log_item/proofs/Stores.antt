@@ -15,7 +15,7 @@ use Rattle.words.specs.declared.Wrote.the-variants.{Next, NoRoom}
 use Rattle.words.proofs.Writing.{room-for}
 use Rattle.log_item.specs.declared.PartWrote.the-variants as part
 use Rattle.log_item.specs.Written.{pieceRefusal, PieceWritten}
-use Rattle.log_item.specs.Place.{At}
+use Rattle.words.specs.Place.{At}
 use Rattle.log_item.specs.Private.{Room, Stored, fitted}
 use Rattle.refusal.proofs.First.{other-answer, neither-refused, taken}
 

@@ -1,7 +1,7 @@
 -- What document 01 says of numbers, proved of the definitions that the contracts cite.
 -- Assumes nothing.
 use Prim.Native.Nat.{ℕ, suc, _+_, _-_, _*_, _^_, _≤_, _<_}
-use mathlib.Core.Path.{_≡_, refl, sym, ap, _∙_}
+use mathlib.Core.Path.{_≡_, sym, ap, _∙_}
 use mathlib.Core.Logic.{_↔_, ⊎-elim}
 use mathlib.Core.List.{List, _++_}
 use native.Mathlib.Omega.{arith}
@@ -11,34 +11,31 @@ use lib.Count.{leading-top}
 use lib.Dec.{lit<}
 use lib.ListN.{length, drop, length-append, length-drop}
 use lib.Pow.{pow-pos}
-use lib.Seq.{drop-append-seam}
+use lib.Seq.{drop-drop, drop-append-seam}
 use Rattle.words.specs.Byte.{Bytes}
+use Rattle.words.specs.Place.{Found}
 use Rattle.words.proofs.Bytes.{as-long}
 use Rattle.numbers.specs.declared.NumberRead.the-variants.{Done}
-use Rattle.numbers.specs.Spelling.{SpellsNumber, Stands}
+use Rattle.numbers.specs.Spelling.{SpellsNumber}
 use Rattle.numbers.specs.Number.{readNumber, readFrom}
 use Rattle.numbers.specs.Shortest.{shortest, statedLength}
 use Rattle.numbers.proofs.Spelled.{as-number, read-groups, read-head, groups-pos}
 use Rattle.numbers.proofs.Shortest.{digit, spell-good, spell-digits, spell-least, spell-only, groups-fit, below-pow}
 
 -- A number is read at a place exactly when some spelling of it stands there; the next place is where the spelling ends.
-pub read-iff-stands : (s : List ℕ) (at n next : ℕ) → (readNumber s at ≡ Done n next) ↔ Stands s at n next
+pub read-iff-stands : (s : List ℕ) (at n next : ℕ) → (readNumber s at ≡ Done n next) ↔ Found s (SpellsNumber n) at next
 unfolding readNumber
 read-iff-stands s at n next = (to, from)
   where
-    to : readFrom 9 (drop at s) at ≡ Done n next → Stands s at n next
+    to : readFrom 9 (drop at s) at ≡ Done n next → Found s (SpellsNumber n) at next
     to e =
         let h = read-head 9 (drop at s) at e in
-        record {
-          bytes = h .bytes;
-          rest = h .rest;
-          spells = as-number (h .spells);
-          there = h .parts;
-          after = h .after;
-        }
+        let rest : drop next s ≡ h .rest =
+        ap (λ k. drop k s) (h .after) ∙ sym (drop-drop (length (h .bytes)) at s) ∙ ap (drop (length (h .bytes))) (h .parts) ∙ drop-append-seam (h .bytes) (h .rest) in
+        record { bytes = h .bytes; at = record { stand = rw rest (h .parts); ends = h .after }; has = as-number (h .spells) }
 
-    from : Stands s at n next → readFrom 9 (drop at s) at ≡ Done n next
-    from h = rw (h .there, h .after) (read-groups 9 (h .spells .groups) (h .spells .few) (h .spells .tenth) (h .rest) at)
+    from : Found s (SpellsNumber n) at next → readFrom 9 (drop at s) at ≡ Done n next
+    from h = rw (h .at .stand, h .at .ends) (read-groups 9 (h .has .groups) (h .has .few) (h .has .tenth) _ at)
 
 -- Of two spellings that begin the same bytes, number and bytes are equal.
 pub one-spelling : {n m : ℕ} {bs cs : List ℕ} (r t : List ℕ) → SpellsNumber n bs → SpellsNumber m cs → bs ++ r ≡ cs ++ t → (n ≡ m) × (bs ≡ cs)
@@ -54,10 +51,10 @@ one-spelling {n} {m} {bs} {cs} r t hb hc e =
 pub read-moves : (s : List ℕ) (at n next : ℕ) → readNumber s at ≡ Done n next → (at < next) × (next ≤ length s)
 read-moves s at n next e =
     let h = read-iff-stands s at n next .0 e in
-    let one : 0 < length (h .bytes) = groups-pos (h .spells .groups) in
-    let len : length s - at ≡ length (h .bytes) + length (h .rest) =
-    sym (length-drop at s) ∙ ap length (h .there) ∙ length-append (h .bytes) (h .rest) in
-    let after : next ≡ at + length (h .bytes) = h .after in
+    let one : 0 < length (h .bytes) = groups-pos (h .has .groups) in
+    let len : length s - at ≡ length (h .bytes) + length (drop next s) =
+    sym (length-drop at s) ∙ ap length (h .at .stand) ∙ length-append (h .bytes) (drop next s) in
+    let after : next ≡ at + length (h .bytes) = h .at .ends in
     (omega arith, omega arith)
 
 -- The shortest form of a 64-bit number spells it.
@@ -103,6 +100,7 @@ shortest-length n h =
 
 -- Reading after writing gives the number and the next place, wherever it stands and whatever follows.
 pub read-written : (n : ℕ) → n < 2 ^ 64 → (xs ys : List ℕ) → readNumber (xs ++ (shortest n ++ ys)) (length xs) ≡ Done n (length xs + length (shortest n))
+unfolding readNumber
 read-written n h xs ys =
-    read-iff-stands (xs ++ (shortest n ++ ys)) (length xs) n (length xs + length (shortest n)) .1
-    (record { bytes = shortest n; rest = ys; spells = shortest-spells n h; there = drop-append-seam xs (shortest n ++ ys); after = refl })
+    let g = shortest-spells n h in
+    rw (drop-append-seam xs (shortest n ++ ys)) (read-groups 9 (g .groups) (g .few) (g .tenth) ys (length xs))

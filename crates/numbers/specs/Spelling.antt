@@ -1,9 +1,8 @@
 -- Which bytes spell which number: a relation, with no reading procedure.
 -- Assumes nothing.
 use Prim.Native.Nat.{ℕ, _+_, _-_, _*_, _≤_, _<_}
-use mathlib.Core.Path.{_≡_}
-use mathlib.Core.List.{List, [], _∷_, _++_}
-use lib.ListN.{length, getD, drop}
+use mathlib.Core.List.{List, [], _∷_}
+use lib.ListN.{length, getD}
 
 -- Seven bits a byte, lowest first; the top bit, worth 128, is set on all but the last byte.
 pub data Groups : ℕ → List ℕ → Type 0 where
@@ -15,11 +14,3 @@ pub record SpellsNumber (n : ℕ) (bs : List ℕ) : Type 0 where
   pub groups : Groups n bs
   pub few : length bs ≤ 10
   pub tenth : getD bs 9 0 ≤ 1
-
--- A spelling of n stands at the place `at` of s, and `next` is the place after it.
-pub record Stands (s : List ℕ) (at n next : ℕ) : Type 0 where
-  pub bytes : List ℕ
-  pub rest : List ℕ
-  pub spells : SpellsNumber n bytes
-  pub there : drop at s ≡ bytes ++ rest
-  pub after : next ≡ at + length bytes

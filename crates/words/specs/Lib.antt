@@ -1,3 +1,4 @@
 pub mod Word
 pub mod Write
 pub mod Byte
+pub mod Place
