@@ -1,14 +1,14 @@
 -- The fetch on words: a law for each way out.
 -- Assumes nothing.
 use mathlib.Core.Path.{_≡_, refl, sym, ap, _∙_}
-use Prim.Native.Nat.{ℕ, _+_, _-_, _<_, _≤_}
+use Prim.Native.Nat.{ℕ, _+_, _-_}
 use native.Mathlib.Omega.{arith}
 use mathlib.Core.Bool.{Bool, true, false, _&&_, and-eq-true-iff}
 use mathlib.Core.List.{List}
 use lib.ListN.{length, take, drop}
-use borrow.Author.Tests.{le-leb, lt-leb}
 use Rattle.location_rules.specs.declared.Table.{Table}
 use Rattle.location_rules.specs.declared.Stop.{Stop}
+use Rattle.location_rules.specs.Parts.{inReach}
 use Rattle.location_answers.specs.declared.Fetched.{Fetched}
 use Rattle.memtable.specs.Rows.{runOf}
 use Rattle.memtable.specs.Table.{wellFormed}
@@ -42,14 +42,14 @@ module _ (words : List ℕ) (t : Table) (gate : ℕ) {b : Bool} (e : b ≡ forme
     unfolding fetchWords rowsOf
     is-limited = rw (parts .0, located-length words) refl
 
-    pub fetch-many : 64 < locationCount words → noRun 21 ≡ fetchWords words t gate
+    pub fetch-many : inReach (locationCount words) 0 ≡ false → noRun 21 ≡ fetchWords words t gate
     unfolding limitedFetch
-    fetch-many l = sym (is-limited ∙ (rw (fetched-is (located words) t gate (parts .1), lt-leb (locationCount words) 64 l) refl))
+    fetch-many l = sym (is-limited ∙ (rw (fetched-is (located words) t gate (parts .1), l) refl))
 
-    pub fetch-run : {end : ℕ} {r : Fetched} → locationCount words ≤ 64 → end ≡ t .count + runOf (Stop.Above gate) (take (locationCount words - t .count) (drop (t .count) (located words)))
+    pub fetch-run : {end : ℕ} {r : Fetched} → inReach (locationCount words) 0 ≡ true → end ≡ t .count + runOf (Stop.Above gate) (take (locationCount words - t .count) (drop (t .count) (located words)))
         → r ≡ fetched true t (end - t .count) → r ≡ fetchWords words t gate
     unfolding limitedFetch
     fetch-run {end} {r} l e₁ e₂ =
         let n : length (located words) ≡ locationCount words = located-length words in
         fetched-by (located words) t gate true (t .count) end r (sym (parts .1)) (omega (arith, n, count-within words t e f)) (rw n e₁) e₂
-        ∙ sym (is-limited ∙ (rw (fetched-is (located words) t gate (parts .1), le-leb (locationCount words) 64 l) refl))
+        ∙ sym (is-limited ∙ (rw (fetched-is (located words) t gate (parts .1), l) refl))

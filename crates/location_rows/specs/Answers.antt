@@ -4,7 +4,7 @@ use mathlib.Core.Path.{_≡_}
 use Prim.Native.Nat.{ℕ, _*_}
 use mathlib.Core.Bool.{not, cond, _&&_}
 use mathlib.Core.List.{List, _++_}
-use lib.Dec.{leb, eqb}
+use lib.Dec.{eqb}
 use lib.ListN.{length, drop}
 use Rattle.location_rules.specs.declared.Table.{Table}
 use Rattle.location_rules.specs.declared.Gate.{Gate}
@@ -25,7 +25,7 @@ unfoldable pub limited : ℕ → ℕ → Table → Rewritten → Rewritten
 limited n m t r = cond (eqb (r .number) 0 && not (inReach n m)) (unchanged 21 (t .count)) r
 
 unfoldable pub limitedFetch : ℕ → Fetched → Fetched
-limitedFetch n f = cond (eqb (f .number) 0 && not (leb n 64)) (noRun 21) f
+limitedFetch n f = cond (eqb (f .number) 0 && not (inReach n 0)) (noRun 21) f
 
 -- a row of the table that is no location's is a 26, an incoming one a 27
 abbrev pub rewriteRows : Rows → Table → Rows → ℕ → Gate → Rewritten

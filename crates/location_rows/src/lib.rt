@@ -16,6 +16,7 @@ use location_answers::unchanged;
 use location_rules::Gate;
 use location_rules::Stop;
 use location_rules::Table;
+use location_rules::in_reach;
 use pipe_log::Location;
 use pipe_log::LogQueue;
 
@@ -67,7 +68,7 @@ pub fn fetch(table: &[u64], first_index: u64, rewritten: u64, gate: u64) -> Fetc
     if !is_well_formed(table, t) {
         return location_answers::run_from(false, t, 0, 0);
     }
-    if 64 < n {
+    if !in_reach(n, 0) {
         return no_run(refusal::OUTPUT_SHORT);
     }
     let end = scan(table, count, n, Stop::Above(gate));
@@ -165,13 +166,10 @@ fn limit(n: usize, m: usize, table: Table, r: Rewritten) -> Rewritten
     if r.number != refusal::NONE {
         return r;
     }
-    if 64 < n {
-        return unchanged(refusal::OUTPUT_SHORT, table.count);
+    if in_reach(n, m) {
+        return r;
     }
-    if 64 < m {
-        return unchanged(refusal::OUTPUT_SHORT, table.count);
-    }
-    r
+    unchanged(refusal::OUTPUT_SHORT, table.count)
 }
 
 // Puts len incoming words, those from `from` on, in the place of the words from `at` on.

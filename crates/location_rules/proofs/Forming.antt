@@ -21,14 +21,11 @@ module _ (first n : ℕ) where
 
 -- more than 64 rows, of these or of the others
 module _ (n m : ℕ) where
-  pub too-many : 64 < n → inReach n m ≡ false
+  pub too-many : 64 < n → false ≡ inReach n m
   too-many l = rw (lt-leb n 64 l) refl
 
-  pub others-many : n ≤ 64 → 64 < m → inReach n m ≡ false
-  others-many l k = rw (le-leb n 64 l, lt-leb m 64 k) refl
-
-  pub reached : n ≤ 64 → m ≤ 64 → inReach n m ≡ true
-  reached l k = rw (le-leb n 64 l, le-leb m 64 k) refl
+  pub others-reach : n ≤ 64 → leb m 64 ≡ inReach n m
+  others-reach l = rw (le-leb n 64 l) refl
 
 module _ (t : Table) (n front back : ℕ) where
   pub beyond : n < t .count → false ≡ wellFormedBy t n front back

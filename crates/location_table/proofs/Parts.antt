@@ -8,7 +8,7 @@ use mathlib.Core.List.{List, [], _∷_, _++_}
 use lib.Dec.{leb}
 use lib.ListN.{length, take, drop}
 use lib.Seq.{length-take-le, length-front}
-use borrow.Author.Tests.{le-leb, lt-leb, leb-true}
+use borrow.Author.Tests.{leb-true}
 use denote.Slice.{Room}
 use Rattle.pipe_log.specs.declared.Location.{Location}
 use Rattle.pipe_log.proofs.Location as T
@@ -41,13 +41,13 @@ module _ (len other : ℕ) where
   unfolding answerOf
   answer-whole t r e = rw e refl
 
-pub fetched-many : (len : ℕ) (r : Fetched) → 64 < len → noRun 21 ≡ fetchedOf len r
+pub fetched-many : (len : ℕ) (r : Fetched) → inReach len 0 ≡ false → noRun 21 ≡ fetchedOf len r
 unfolding fetchedOf
-fetched-many len r l = rw (lt-leb len 64 l) refl
+fetched-many len r e = rw e refl
 
-pub fetched-whole : (len : ℕ) (r : Fetched) → len ≤ 64 → r ≡ fetchedOf len r
+pub fetched-whole : (len : ℕ) (r : Fetched) → inReach len 0 ≡ true → r ≡ fetchedOf len r
 unfolding fetchedOf
-fetched-whole len r l = rw (le-leb len 64 l) refl
+fetched-whole len r e = rw e refl
 
 -- no more rows are lent than an array has
 chosen : (b : Bool) (len n : ℕ) → (b ≡ true → len ≤ 64) → n ≡ cond b len 0 → n ≤ 64
@@ -114,9 +114,9 @@ module _ (xs : List Location) (len : ℕ) (t : Table) (ys : List Location) (many
 
 pub fetch-is : (xs : List Location) (len : ℕ) (t : Table) (gate n : ℕ) (d r : Fetched) → n ≡ rowsUsed len 0 → d ≡ fetchOf (take n xs) t gate → r ≡ fetchedOf len d → r ≡ fetchValue xs len t gate
 unfolding fetchValue fetchedOf rowsUsed
-fetch-is xs len t gate n d r e₁ e f = f ∙ told (leb len 64) refl
+fetch-is xs len t gate n d r e₁ e f = f ∙ told (inReach len 0) refl
   where
-    told : (b : Bool) → leb len 64 ≡ b → fetchedOf len d ≡ fetchedOf len (fetchOf (take len xs) t gate)
+    told : (b : Bool) → inReach len 0 ≡ b → fetchedOf len d ≡ fetchedOf len (fetchOf (take len xs) t gate)
     told true z = rw z (e ∙ ap (λ (k : ℕ). fetchOf (take k xs) t gate) all-used)
       where
         all-used : n ≡ len

@@ -3,7 +3,6 @@
 use Prim.Native.Nat.{ℕ}
 use mathlib.Core.Bool.{cond}
 use mathlib.Core.List.{List, _++_}
-use lib.Dec.{leb}
 use lib.ListN.{take, drop}
 use Rattle.pipe_log.specs.declared.Location.{Location}
 use Rattle.location_rules.specs.declared.Table.{Table}
@@ -20,7 +19,7 @@ unfoldable pub answerOf : ℕ → ℕ → Table → Rewritten → Rewritten
 answerOf len many t r = cond (inReach len many) r (unchanged 21 (t .count))
 
 unfoldable pub fetchedOf : ℕ → Fetched → Fetched
-fetchedOf len r = cond (leb len 64) r (noRun 21)
+fetchedOf len r = cond (inReach len 0) r (noRun 21)
 
 unfoldable pub rewriteValue : List Location → ℕ → Table → List Location → ℕ → ℕ → Gate → Rewritten
 rewriteValue rows len t incoming many first gate = answerOf len many t (rewriteOf (take len rows) t (take many incoming) first gate)

@@ -9,6 +9,7 @@ use location_answers::no_run;
 use location_answers::unchanged;
 use location_rules::Gate;
 use location_rules::Table;
+use location_rules::in_reach;
 use pipe_log::Location;
 
 // What a rewrite by value leaves: its answer, and the rows after it.
@@ -59,32 +60,23 @@ pub fn fetch_entry_indexes_before(
 fn used(len: usize, other: usize) -> usize
     ensures { λ r. ⌜ r ≡ rowsUsed len other ⌝ }
 {
-    if 64 < len {
-        return 0;
-    }
-    if 64 < other {
-        return 0;
-    }
-    len
+    if in_reach(len, other) { len } else { 0 }
 }
 
 fn answer(len: usize, many: usize, table: Table, r: Rewritten) -> Rewritten
     ensures { λ a. ⌜ a ≡ answerOf len many table r ⌝ }
 {
-    if 64 < len {
-        return unchanged(refusal::OUTPUT_SHORT, table.count);
+    if in_reach(len, many) {
+        return r;
     }
-    if 64 < many {
-        return unchanged(refusal::OUTPUT_SHORT, table.count);
-    }
-    r
+    unchanged(refusal::OUTPUT_SHORT, table.count)
 }
 
 fn fetched(len: usize, r: Fetched) -> Fetched
     ensures { λ a. ⌜ a ≡ fetchedOf len r ⌝ }
 {
-    if 64 < len {
-        return no_run(refusal::OUTPUT_SHORT);
+    if in_reach(len, 0) {
+        return r;
     }
-    r
+    no_run(refusal::OUTPUT_SHORT)
 }
