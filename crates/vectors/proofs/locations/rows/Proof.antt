@@ -17,8 +17,8 @@ slice-aggregate-row c = search needs
 row-requires : tie.Need-row-requires Inv-loop μ-loop
 row-requires c κs = search needs
 
-kind-requires : tie.Need-kind-requires Inv-loop μ-loop
-kind-requires c κs = search needs
+first-letter-requires : tie.Need-first-letter-requires Inv-loop μ-loop
+first-letter-requires c κs = search needs
 
 returns : tie.Need-returns Inv-loop μ-loop
 returns c = search needs
@@ -67,7 +67,7 @@ rows-spec =
     μ-loop
     slice-aggregate-row
     row-requires
-    kind-requires
+    first-letter-requires
     returns
     loop-holds
     find-requires

@@ -11,8 +11,8 @@ Inv-loop line words table₀ k₀ table k = k₀ ≤ k
 abbrev μ-loop : tie.MeasureT-loop
 μ-loop line words table₀ k₀ table k = 32 - k
 
-after-requires : tie.Need-after-requires Inv-loop μ-loop
-after-requires c κs = search needs
+words-from-requires : tie.Need-words-from-requires Inv-loop μ-loop
+words-from-requires c κs = search needs
 
 table-requires : tie.Need-table-requires Inv-loop μ-loop
 table-requires c κs = search needs
@@ -20,11 +20,11 @@ table-requires c κs = search needs
 loop-holds : tie.Need-loop-holds Inv-loop μ-loop
 loop-holds c = search needs
 
-after-requires-2 : tie.Need-after-requires-2 Inv-loop μ-loop
-after-requires-2 c κs = search needs
+words-from-requires-2 : tie.Need-words-from-requires-2 Inv-loop μ-loop
+words-from-requires-2 c κs = search needs
 
-kind-requires : tie.Need-kind-requires Inv-loop μ-loop
-kind-requires c κs = search needs
+first-letter-requires : tie.Need-first-letter-requires Inv-loop μ-loop
+first-letter-requires c κs = search needs
 
 rewrite-requires : tie.Need-rewrite-requires Inv-loop μ-loop
 rewrite-requires c κs = search needs
@@ -62,11 +62,11 @@ case-spec =
     (tie.spec
     Inv-loop
     μ-loop
-    after-requires
+    words-from-requires
     table-requires
     loop-holds
-    after-requires-2
-    kind-requires
+    words-from-requires-2
+    first-letter-requires
     rewrite-requires
     add-k
     loop-less
