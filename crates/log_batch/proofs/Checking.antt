@@ -23,23 +23,41 @@ use Rattle.log_batch.specs.declared.PlainForm.the-variants as plain
 use Rattle.log_batch.specs.Body.{readBody}
 use Rattle.log_batch.specs.Seal.{sealedPart}
 use Rattle.log_batch.specs.Answers.{checkOf, plainBody}
+use Rattle.log_item.proofs.Holds.{Holds, holds, later, at-most, of-got}
 use Rattle.log_item.proofs.Counted.{pass-one}
 use Rattle.log_batch.proofs.Bodies.{parts}
 
 -- ---- the item count
 
 module _ (form : Form) (s : List ℕ) where
-  pub count-broken : {r : ℕ} → number form s 0 ≡ refused r → readItems form s ≡ rejected r 0
-  unfolding readItems count
+  pub count-broken : {r : ℕ} → number form s 0 ≡ refused r → refused r ≡ count form s 0
+  unfolding count
   count-broken e = rw e
 
-  pub items-many : {n q : ℕ} → number form s 0 ≡ got n q → 256 < n → readItems form s ≡ rejected 9 0
-  unfolding readItems count
-  items-many e h = rw (e, lt-leb _ _ h)
+  module _ {n q : ℕ} (e : number form s 0 ≡ got n q) where
+    pub items-many : 256 < n → refused 9 ≡ count form s 0
+    unfolding count
+    items-many h = rw (e, lt-leb _ _ h)
 
-  pub count-good : {n q : ℕ} → number form s 0 ≡ got n q → n ≤ 256 → readItems form s ≡ items form s n 0 0 0 q
-  unfolding readItems count
-  count-good e h = rw (e, le-leb _ _ h)
+    pub count-good : n ≤ 256 → got n q ≡ count form s 0
+    unfolding count
+    count-good h = rw (e, le-leb _ _ h)
+
+  count-holds : Holds (λ n q. n ≤ 256) (count form s 0)
+  unfolding count
+  count-holds = later (number form s 0) λ n q. at-most n 256 9 _ q λ h. holds h
+
+  pub none-counted : {r : ℕ} → count form s 0 ≡ refused r → readItems form s ≡ rejected r 0
+  unfolding readItems
+  none-counted e = rw e
+
+  module _ {n q : ℕ} (e : count form s 0 ≡ got n q) where
+    pub some-counted : readItems form s ≡ items form s n 0 0 0 q
+    unfolding readItems
+    some-counted = rw e
+
+    pub counted-few : n ≤ 256
+    counted-few = of-got count-holds e
 
 -- ---- the items
 

@@ -9,22 +9,20 @@ use denote.Enum.Declared.{tagOf}
 use mathlib.Core.Logic.{inl, inr}
 use lib.ListN.{length, take, set, replicate}
 use Rattle.refusal.specs.declared.Refusal.{Refusal}
-use Rattle.numbers.specs.Number.{readNumber}
 use Rattle.numbers.specs.declared.NumberRead.{NumberRead}
 use Rattle.numbers.specs.declared.NumberRead.the-variants.{Done, Eof, Overflow}
 use Rattle.numbers.proofs.NumberRead.{the-type}
 use Rattle.log_item.specs.Got.{got, refused}
 use Rattle.log_item.specs.Entries.{entriesOf, tailRow}
 use Rattle.log_item.specs.Pieces.{numberGot}
-use Rattle.log_item.proofs.Pieces.{number-any}
 use Rattle.log_item.specs.Reading.{head, tail, tails}
 use Rattle.log_item.specs.declared.Form.the-variants.{Any}
 use Rattle.log_item.specs.declared.LogItem.{LogItem}
 use Rattle.log_item.specs.declared.EntryIndex.{EntryIndex}
 use Rattle.log_item.specs.declared.EntryIndexes.{EntryIndexes}
 use Rattle.log_item.proofs.Known.{tail-known, head-known, head-room}
-use Rattle.log_batch.specs.Reading.{accepted, rejected, items, readItems}
-use Rattle.log_batch.proofs.Checking.{count-good}
+use Rattle.log_batch.specs.Reading.{accepted, rejected, items, count, readItems}
+use Rattle.log_batch.proofs.Checking.{some-counted, counted-few}
 use Rattle.log_item.specs.Blank.{blankItem, blankEntry}
 use Rattle.log_batch.proofs.FilledRows.{FilledRows, rows-none, rows-set, rows-take}
 use Rattle.log_batch.proofs.Coming.{prepend, behind, rest, prepend-none, prepend-item, prepend-row, row-suc, bad-suc, rest-zero, item-suc, no-item}
@@ -53,13 +51,13 @@ not-done Eof e = refl
 not-done Overflow e = refl
 
 module _ (s : List ℕ) where
-  pub begun : {k q : ℕ} → readNumber s 0 ≡ Done k q → k ≤ 256
+  pub begun : {k q : ℕ} → count Any s 0 ≡ got k q
       → Filling s k (replicate 256 blankItem) (replicate 1024 blankEntry) (record { number = 0; item = 0 }) 0 0 q 0 0 0
-  begun {k} {q} e h =
+  begun {k} {q} e =
       let all : k - 0 ≡ k = omega arith in
       record {
         most = omega arith;
-        few = h;
+        few = counted-few Any s e;
         room = omega arith;
         owned = omega arith;
         low = omega arith;
@@ -68,7 +66,7 @@ module _ (s : List ℕ) where
         filled-rows = rows-none 1024;
         unrefused = refl;
         so-far =
-            prepend-none _ ∙ rest-zero s k 0 0 q 0 0 ∙ ap (λ (m : ℕ). items Any s m 0 0 0 q) all ∙ sym (count-good Any s (sym (number-any s 0 refl e)) h);
+            prepend-none _ ∙ rest-zero s k 0 0 q 0 0 ∙ ap (λ (m : ℕ). items Any s m 0 0 0 q) all ∙ sym (some-counted Any s e);
       }
 
 -- ---- the turns

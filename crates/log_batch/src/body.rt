@@ -1,7 +1,8 @@
 // What a body holds, without a table: reading it item by item, and whether each of its numbers has the shortest spelling. From log_batch.rs,
 // LogItemBatch::decode.
 ghost use mathlib.Core.Path.{_≡_};
-ghost use Rattle.log_batch.specs.Reading.{items, readItems};
+ghost use Rattle.log_item.specs.Answers.{fieldGot};
+ghost use Rattle.log_batch.specs.Reading.{items, count, readItems};
 ghost use Rattle.log_batch.specs.Body.{readBody};
 ghost use Rattle.log_batch.specs.Answers.{checkOf, plainBody};
 use crate::BodyCheck;
@@ -66,17 +67,24 @@ pub fn plain(body: &[u8], signature: u32) -> PlainForm
 fn check_form(buf: &[u8], form: Form) -> BodyCheck
     ensures { λ r. ⌜ r ≡ checkOf (readItems form (now (buf .entry))) ⌝ }
 {
+    match read_item_count(buf, form) {
+        Field::Done { value, next } => check_from(buf, next, value as usize, form),
+        Field::Refused(number) => BodyCheck::Refused(Refusal { number, item: 0 }),
+    }
+}
+
+// How many items a body without its footer says that it has.
+pub(crate) fn read_item_count(buf: &[u8], form: Form) -> Field
+    ensures { λ r. ⌜ fieldGot r ≡ count form (now (buf .entry)) 0 ⌝ }
+{
     match log_item::read_number(buf, 0, form) {
         Field::Done { value, next } => {
             if 256 < value {
-                return BodyCheck::Refused(Refusal {
-                    number: refusal::ITEMS_TOO_MANY,
-                    item: 0,
-                });
+                return Field::Refused(refusal::ITEMS_TOO_MANY);
             }
-            check_from(buf, next, value as usize, form)
+            Field::Done { value, next }
         }
-        Field::Refused(number) => BodyCheck::Refused(Refusal { number, item: 0 }),
+        Field::Refused(number) => Field::Refused(number),
     }
 }
 

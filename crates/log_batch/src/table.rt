@@ -1,6 +1,7 @@
 // The items of a batch in a table: reading a body into it, and writing it as a body. From log_batch.rs, LogItemBatch.
 ghost use mathlib.Core.Path.{_≡_};
-ghost use Rattle.log_batch.specs.Reading.{readItems};
+ghost use Rattle.log_item.specs.Got.{got};
+ghost use Rattle.log_batch.specs.Reading.{count, readItems};
 ghost use Rattle.log_batch.specs.Body.{readBody};
 ghost use Rattle.log_item.specs.Blank.{blankItem, blankEntry};
 ghost use Rattle.log_batch.specs.Table.{emptyTable, tableOf, bodyTable};
@@ -8,11 +9,12 @@ ghost use Rattle.log_batch.specs.Writing.{BodyWritten};
 ghost use mathlib.Core.Bool.{true, false};
 use crate::LogBatch;
 use crate::LogItemBatch;
+use crate::body::read_item_count;
 use crate::seal::check_seal;
-use codec::NumberRead;
 use list_writer::Encoded;
 use log_item::EntryIndex;
 use log_item::EntryIndexes;
+use log_item::Field;
 use log_item::Form;
 use log_item::HeadRead;
 use log_item::LogItem;
@@ -82,17 +84,23 @@ impl LogItemBatch {
         LogItemBatch::fill(&body[..n], body.len())
     }
 
-    // The table of a body without its footer; `len` is how long a body it states, from 0 on. The one loop that fills a table.
+    // The table of a body without its footer; `len` is how long a body it states, from 0 on.
     fn fill(buf: &[u8], len: usize) -> LogItemBatch
         ensures { λ r. ⌜ r ≡ tableOf (record { at = 0; len = len }) (record { at = 0; len = 0 }) (readItems Form.Any (now (buf .entry))) ⌝ }
     {
-        let NumberRead::Done { value, next: start } = codec::decode_var_u64(buf, 0) else {
-            return LogItemBatch::empty(refusal::NUMBER_BROKEN, 0);
-        };
-        if 256 < value {
-            return LogItemBatch::empty(refusal::ITEMS_TOO_MANY, 0);
+        match read_item_count(buf, Form::Any) {
+            Field::Done { value, next } => {
+                LogItemBatch::fill_from(buf, len, next, value as usize)
+            }
+            Field::Refused(number) => LogItemBatch::empty(number, 0),
         }
-        let count = value as usize;
+    }
+
+    // The same where its `many` items begin at a place. The one loop that fills a table.
+    fn fill_from(buf: &[u8], len: usize, start: usize, many: usize) -> LogItemBatch
+        requires { ⌜ count Form.Any (now buf) 0 ≡ got many start ⌝ }
+        ensures { λ r. ⌜ r ≡ tableOf (record { at = 0; len = len }) (record { at = 0; len = 0 }) (readItems Form.Any (now (buf .entry))) ⌝ }
+    {
         let mut t = LogItemBatch::empty(refusal::NONE, 0);
         let mut i: usize = 0;
         let mut j: usize = 0;
@@ -119,7 +127,7 @@ impl LogItemBatch {
                         index = std::num::wrapping_add_u64(index, 1);
                     }
                 }
-            } else if i < count {
+            } else if i < many {
                 match LogItem::decode_head(buf, at, j, Form::Any) {
                     HeadRead::Refused(number) => {
                         return LogItemBatch::empty(number, i);

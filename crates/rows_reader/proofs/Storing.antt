@@ -31,7 +31,7 @@ use Rattle.log_item.specs.Private.{Stored}
 use Rattle.log_item.proofs.Stores.{stored-none, stored-then, stored-length, stored-same}
 use Rattle.log_item.proofs.Pieces.{number-any, number-broken}
 use Rattle.log_batch.specs.Reading.{Answer, accepted, rejected, readItems}
-use Rattle.log_batch.proofs.Checking.{count-broken, items-many}
+use Rattle.log_batch.proofs.Checking.{count-broken, items-many, count-good, none-counted}
 use Rattle.log_batch.proofs.FilledRows.{rows-take, rows-length}
 use Rattle.log_batch.proofs.Coming.{prepend, rest}
 use Rattle.log_batch.proofs.Filling.{Filling, not-done, begun, next-row, filling-row-refused, ended, next-item, filling-item-refused}
@@ -56,14 +56,14 @@ never f e =
     absurd (omega arith)
 
 pub not-broken : {A : Type 0} {s items entries : List ℕ} {r : NumberRead} → Fits s items entries → r ≡ readNumber s 0 → OneOf (1 ∷ 2 ∷ []) (tagOf the-type r) → A
-not-broken {s = s} {r = r} f e h = never f (count-broken Any s (sym (number-broken Any s 0 (sym e) (not-done r h))))
+not-broken {s = s} {r = r} f e h = never f (none-counted Any s (sym (count-broken Any s (sym (number-broken Any s 0 (sym e) (not-done r h))))))
 
 pub few : {s items entries : List ℕ} {k q : ℕ} → Fits s items entries → readNumber s 0 ≡ Done k q → k ≤ 256
 few {s} {items} {entries} {k} f e = go (leb k 256) refl
   where
     go : (b : Bool) → leb k 256 ≡ b → k ≤ 256
     go true h = leb-true k 256 h
-    go false h = never f (items-many Any s (sym (number-any s 0 refl e)) (leb-false k 256 h))
+    go false h = never f (none-counted Any s (sym (items-many Any s (sym (number-any s 0 refl e)) (leb-false k 256 h))))
 
 -- What stands in front of something is not longer than the whole.
 in-front : (xs : List LogItem) (rows : List EntryIndex) (a : Answer) {all : List LogItem} {more : List EntryIndex} {u q : ℕ}
@@ -90,7 +90,7 @@ module _ {s items₀ entries₀ : List ℕ} (f : Fits s items₀ entries₀) whe
       record {
         table = replicate 256 blankItem;
         lines = replicate 1024 blankEntry;
-        filling = begun s e (few f e);
+        filling = begun s (sym (count-good Any s (sym (number-any s 0 refl e)) (few f e)));
         item-rows = stored-none items₀ 0;
         entry-rows = stored-none entries₀ 0;
       }
