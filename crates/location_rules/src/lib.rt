@@ -1,5 +1,6 @@
 // The rules of one row and of one table of locations, which look at no list of rows: memtable asks them of records that lie in a row, and
-// location_rows of words. From memtable.rs, rewrite and fetch_entry_indexes_before.
+// location_rows of words. From memtable.rs, rewrite and fetch_entry_indexes_before. in_reach is ours: location_table and location_rows ask
+// it.
 ghost use mathlib.Core.Path.{_≡_};
 ghost use Rattle.location_rules.specs.Row.{stopsAt, stopOf};
 ghost use Rattle.location_rules.specs.Parts.{indexesFit, inReach, wellFormedBy, readyBy};

@@ -21,9 +21,9 @@ use Rattle.log_batch.specs.Acceptable.{Begins}
 use Rattle.log_batch.specs.Rows.{Joined, Indexed}
 use Rattle.log_batch.specs.Rows as lie
 use Rattle.words.specs.Place.{At, Found}
-use Rattle.log_item.specs.Place.{Asks}
+use Rattle.log_item.specs.ItemSpelled.{Asks}
 use Rattle.log_item.proofs.Holds.{Says, holds, after, if-most}
-use Rattle.log_item.proofs.Place.{join, cut, at-nothing, at-front}
+use Rattle.words.proofs.Place.{join, cut, at-nothing, at-front}
 use Rattle.log_item.proofs.Numbers.{complete-number, sound-number, number-some, in-any}
 use Rattle.log_batch.proofs.Rows.{item-length, item-joined, item-consecutive, joined-append}
 use Rattle.log_item.proofs.Every.{each-append, each-split}

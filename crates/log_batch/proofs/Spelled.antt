@@ -33,7 +33,7 @@ use Rattle.log_item.specs.declared.LogItem.{LogItem}
 use Rattle.log_item.specs.declared.EntryIndex.{EntryIndex}
 use Rattle.log_item.proofs.Holds.{of-got}
 use Rattle.log_item.proofs.Numbers.{in-any}
-use Rattle.log_item.proofs.Place.{cut, at-front}
+use Rattle.words.proofs.Place.{cut, at-front}
 use Rattle.log_batch.proofs.Rows.{item-length}
 use Rattle.log_item.proofs.Every.{each-append}
 use Rattle.log_item.proofs.Sound.{sound-item}

@@ -48,7 +48,7 @@ use Rattle.log_batch.specs.Spelling.{Spells, list}
 use Rattle.log_batch.specs.Acceptable.{Acceptable, Begins}
 use Rattle.log_batch.specs.Plain.{InPlainForm}
 use Rattle.log_batch.specs.Rows.{Joined, Indexed}
-use Rattle.log_item.specs.Place.{Asks}
+use Rattle.log_item.specs.ItemSpelled.{Asks}
 use Rattle.log_batch.proofs.Accepts.{of-accepted}
 use Rattle.log_batch.proofs.Listing.{complete, sound, items-joined, items-indexed}
 use Rattle.log_batch.proofs.One.{one-spelled}

@@ -9,7 +9,7 @@ use Rattle.log_item.specs.Got.{got}
 use Rattle.log_item.specs.Reading.{Read, oneItem}
 use Rattle.log_item.proofs.Holds.{of-got}
 use Rattle.words.specs.Place.{Found}
-use Rattle.log_item.specs.Place.{Asks, ItemSpelled}
+use Rattle.log_item.specs.ItemSpelled.{Asks, ItemSpelled}
 use Rattle.log_item.proofs.Complete.{complete-item}
 use Rattle.log_item.proofs.Sound.{sound-item}
 

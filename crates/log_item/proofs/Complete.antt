@@ -19,8 +19,8 @@ use Rattle.log_item.specs.Spelling.{NumberIn, Spanned, spanned, Contents
 use Rattle.words.specs.Place.{At}
 use Rattle.log_item.specs.Pieces.{span}
 use Rattle.log_item.specs.Reading.{command, putAt, keyValue, firstIndex, entryCount, entryIndexes, content, head, tail, tails, oneItem}
-use Rattle.log_item.proofs.Place.{cut, at-inside, complete-byte}
-use Rattle.log_item.proofs.Numbers.{number-some, complete-number}
+use Rattle.words.proofs.Place.{cut, at-inside}
+use Rattle.log_item.proofs.Numbers.{complete-byte, number-some, complete-number}
 
 -- There are as many rows as tails.
 pub tails-length : {N : ℕ → List ℕ → Type 0} {n i t u : ℕ} {rows : List EntryIndex} {x : List ℕ} → Tails N n i rows t u x → length rows ≡ n

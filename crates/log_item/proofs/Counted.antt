@@ -8,8 +8,9 @@ use native.Mathlib.Omega.{arith}
 use lib.ListN.{length}
 use Rattle.log_item.specs.Got.{Got, got, refused, Reading, done, bind}
 use Rattle.log_item.specs.Entries.{entriesOf, tailRow}
-use Rattle.log_item.specs.Reading.{Read, head, tail, tails, oneItem}
-use Rattle.log_item.specs.Answers.{Counted, countedItem, passItem, passTails}
+use Rattle.log_item.specs.Reading.{Read, head, tail, tails, withTails, oneItem}
+use Rattle.log_item.specs.Answers.{Counted, countedItem, passItem}
+use Rattle.log_item.specs.Private.{passTails}
 use Rattle.log_item.specs.declared.Form.{Form}
 use Rattle.log_item.specs.declared.EntryIndex.{EntryIndex}
 use Rattle.log_item.specs.declared.EntryIndexes.{EntryIndexes}
@@ -89,20 +90,18 @@ module _ (form : Form) (s : List ℕ) where
   unfolding passItem countedItem oneItem
   pass-one used t p = by-head (head form s used p)
     where
-      by-rows : (x : LogItem) (q : ℕ) (g : Got (List EntryIndex × ℕ))
-          → bind {A = Counted} {B = ℕ × ℕ} (bind g (λ r. done (record { item = x; tailsAt = q; total = r .1; used = used + length (r .0) }))) (λ r. done (r .total, r .used))
-          ≡ bind {A = Read} {B = ℕ × ℕ} (bind g (λ r. done (record { item = x; rows = r .0; total = r .1 }))) (λ r. done (r .total, used + length (r .rows)))
-      by-rows x q (got r z) = refl
-      by-rows x q (refused r) = refl
+      by-item : (q : ℕ) (g : Got Read)
+          → bind {A = Counted} {B = ℕ × ℕ} (bind g (λ r. done (record { item = r .item; tailsAt = q; total = r .total; used = used + length (r .rows) }))) (λ r. done (r .total, r .used))
+          ≡ bind g (λ r. done (r .total, used + length (r .rows)))
+      by-item q (got r z) = refl
+      by-item q (refused r) = refl
 
       by-head : (m : Got LogItem)
           → bind {A = Counted} {B = ℕ × ℕ}
-          (bind m (λ x q. bind (tails form s (entriesOf (x .content) .count) (entriesOf (x .content) .«first_index») t q) (λ r. done (record { item = x; tailsAt = q; total = r .1; used = used + length (r .0) }))))
+          (bind m (λ x q. bind (withTails form s x t q) (λ r. done (record { item = r .item; tailsAt = q; total = r .total; used = used + length (r .rows) }))))
           (λ r. done (r .total, r .used))
-          ≡ bind {A = Read} {B = ℕ × ℕ}
-          (bind m (λ x q. bind (tails form s (entriesOf (x .content) .count) (entriesOf (x .content) .«first_index») t q) (λ r. done (record { item = x; rows = r .0; total = r .1 }))))
-          (λ r. done (r .total, used + length (r .rows)))
-      by-head (got x q) = by-rows x q (tails form s (entriesOf (x .content) .count) (entriesOf (x .content) .«first_index») t q)
+          ≡ bind {A = Read} {B = ℕ × ℕ} (bind m (λ x. withTails form s x t)) (λ r. done (r .total, used + length (r .rows)))
+      by-head (got x q) = by-item q (withTails form s x t q)
       by-head (refused r) = refl
 
   -- An item that was got is its head and the rows of its tails.
@@ -130,7 +129,8 @@ module _ (form : Form) (s : List ℕ) where
 
     module _ {x : LogItem} {q : ℕ} (e : head form s used p ≡ got x q) {d : EntryIndexes} (k : d ≡ entriesOf (x .content)) where
       by-rows : (g : Got (List EntryIndex × ℕ)) → Holds (λ r z. length (r .0) ≡ d .count) g
-          → bind g (λ r. done (record { item = x; tailsAt = q; total = r .1; used = used + length (r .0) }))
+          → bind {A = Read} {B = Counted} (bind g (λ r. done (record { item = x; rows = r .0; total = r .1 })))
+          (λ r. done (record { item = r .item; tailsAt = q; total = r .total; used = used + length (r .rows) }))
           ≡ bind (totalOf g) (passing x q (used + d .count))
       by-rows (got r z) h = rw (only h)
       by-rows (refused r) h = refl

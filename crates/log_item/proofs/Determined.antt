@@ -37,8 +37,6 @@ use Rattle.log_item.proofs.LogItem.entries.Kinds as entries-kinds
 use Rattle.log_item.proofs.LogItem.entries.Reads as entries-reads
 use Rattle.log_item.proofs.EntryIndexes.decode_tail.Kinds as decode-tail-kinds
 use Rattle.log_item.proofs.EntryIndexes.decode_tail.Reads as decode-tail-reads
-use Rattle.log_item.proofs.entries.skip_tails.Kinds as skip-tails-kinds
-use Rattle.log_item.proofs.entries.skip_tails.Reads as skip-tails-reads
 use Rattle.log_item.proofs.Command.encode.Kinds as encode-command-kinds
 use Rattle.log_item.proofs.Command.encode.Reads as encode-command-reads
 use Rattle.log_item.proofs.KeyValue.encode.Kinds as encode-key-value-kinds
@@ -129,9 +127,6 @@ entries κs a x y s t p q = p ∙ sym q
 
 pub decode-tail : OneAnswer 1 decode-tail-kinds.ps decode-tail-kinds.r decode-tail-reads.Post (λ κs x y s t. x ≡ y)
 decode-tail κs a x y s t p q = tail-same x y (p ∙ sym q)
-
-pub skip-tails : OneAnswer 1 skip-tails-kinds.ps skip-tails-kinds.r skip-tails-reads.Post (λ κs x y s t. x ≡ y)
-skip-tails κs a x y s t p q = tail-same x y (p ∙ sym q)
 
 pub measure : OneAnswer 1 measure-kinds.ps measure-kinds.r measure-reads.Post (λ κs x y s t. x ≡ y)
 measure κs a x y s t p q = p ∙ sym q

@@ -8,7 +8,6 @@ pub mod Counted
 pub mod Passing
 pub mod Short
 pub mod Known
-pub mod Place
 pub mod Numbers
 pub mod Complete
 pub mod Sound

@@ -1,11 +1,12 @@
--- Numbers in a form: what is read is what is spelled.
+-- A byte, and a number in a form: what is read is what is spelled.
 -- Assumes nothing.
 use Prim.Native.Nat.{ℕ, _+_, _<_}
 use mathlib.Core.Path.{_≡_, refl, ap, _∙_}
-use mathlib.Core.List.{List}
+use mathlib.Core.List.{List, [], _∷_}
 use native.Mathlib.Omega.{arith}
 use lib.ListN.{length}
-use borrow.Author.Tests.{eq-eqb}
+use lib.Seq.{drop-cons}
+use borrow.Author.Tests.{lt-ltb, eq-eqb}
 use Rattle.numbers.specs.declared.NumberRead.{NumberRead}
 use Rattle.numbers.specs.declared.NumberRead.the-variants.{Done, Eof, Overflow}
 use Rattle.numbers.specs.Number.{readNumber}
@@ -18,11 +19,24 @@ use Rattle.log_item.specs.declared.Form.the-variants.{Any, Plain}
 use Rattle.log_item.specs.Got.{got}
 use Rattle.log_item.specs.Spelling.{NumberIn}
 use Rattle.words.specs.Place.{At, Found}
-use Rattle.log_item.specs.Place.{Asks}
-use Rattle.log_item.specs.Pieces.{numberGot, number}
-use Rattle.log_item.proofs.Holds.{Says, holds, says, after, if-equal}
+use Rattle.log_item.specs.ItemSpelled.{Asks}
+use Rattle.log_item.specs.Pieces.{numberGot, byte, number}
+use Rattle.log_item.proofs.Holds.{Says, holds, says, after, if-below, if-equal}
 use Rattle.words.specs.Byte.{Bytes}
-use Rattle.log_item.proofs.Place.{bytes-at}
+use Rattle.words.proofs.Place.{at-byte, at-inside, bytes-at}
+
+-- A byte that stands at a place is read there.
+pub complete-byte : {s : List ℕ} {b p q : ℕ} → At s p q (b ∷ []) → byte s p ≡ got b q
+unfolding byte
+complete-byte {s} {b} {p} {q} f =
+    let h : p < length s = omega (arith, f .ends, at-inside f (omega arith)) in
+    let e : q ≡ p + 1 = f .ends in
+    rw (lt-ltb _ _ h) (cc (drop-cons s p 0 h, f .stand))
+
+-- A byte that is read at a place stands there.
+pub sound-byte : (s : List ℕ) (p : ℕ) → Says (λ b q. At s p q (b ∷ [])) (byte s p)
+unfolding byte
+sound-byte s p = if-below p (length s) _ _ _ λ h. holds (at-byte p h)
 
 -- A spelling in the shortest form is a spelling.
 pub plain-any : (n : ℕ) (x : List ℕ) → NumberIn Plain n x → NumberIn Any n x

@@ -8,7 +8,8 @@ use Rattle.log_item.specs.Got.{Got, got, refused, Reading, done, bind}
 use Rattle.log_item.specs.Entries.{entriesOf}
 use Rattle.log_item.specs.Pieces.{byte, number}
 use Rattle.log_item.specs.Reading.{firstIndex, entryCount, entryIndexes, content, head}
-use Rattle.log_item.specs.Answers.{Counted, passTails, passItem}
+use Rattle.log_item.specs.Answers.{Counted, passItem}
+use Rattle.log_item.specs.Private.{passTails, passStated, passEntries, passContent}
 use Rattle.log_item.specs.declared.Form.{Form}
 use Rattle.log_item.specs.declared.EntryIndexes.{EntryIndexes}
 use Rattle.log_item.specs.declared.LogItem.{LogItem}
@@ -17,7 +18,6 @@ use Rattle.log_item.specs.declared.LogItemContent.the-variants as conten
 use Rattle.log_item.proofs.Holds.{Holds, holds, later, at-most, of-got}
 use Rattle.log_item.proofs.Reading.{entries-first, entries-no-count, head-done, head-no-content, head-no-type, head-refused}
 use Rattle.log_item.proofs.Counted.{passing, pass-end, item-rows, item-no-head}
-use Rattle.log_item.specs.Private.{passStated, passEntries, passContent}
 
 -- a total, where n is the number of entries
 abbrev with : ℕ → ℕ → Reading (ℕ × ℕ)

@@ -17,13 +17,13 @@ use Rattle.log_item.specs.Each as every
 use Rattle.log_item.specs.Limits.{RowFits}
 use Rattle.log_item.specs.Spelling.{NumberIn, Spanned, spanned, Contents, no-entries, entries, clean, compact, put, delete, Tails, no-more, next, item}
 use Rattle.words.specs.Place.{At, Found}
-use Rattle.log_item.specs.Place.{Asks, ItemSpelled}
+use Rattle.log_item.specs.ItemSpelled.{Asks, ItemSpelled}
 use Rattle.log_item.specs.Pieces.{span}
 use Rattle.log_item.specs.Reading.{command, putAt, keyValue, firstIndex, entryCount, entryIndexes, head, tail, tails, oneItem}
 use Rattle.log_item.specs.Reading as reading
 use Rattle.log_item.proofs.Holds.{Says, holds, says, after, if-most, is}
-use Rattle.log_item.proofs.Place.{join, at-nothing, sound-byte}
-use Rattle.log_item.proofs.Numbers.{sound-number}
+use Rattle.words.proofs.Place.{join, at-nothing}
+use Rattle.log_item.proofs.Numbers.{sound-byte, sound-number}
 use Rattle.log_item.proofs.Complete.{tails-length}
 
 -- What is spelled where n tails are read from the index i on.

@@ -30,7 +30,7 @@ use Rattle.log_item.specs.declared.LogItemContent.{LogItemContent}
 use Rattle.log_item.specs.declared.LogItemContent.the-variants as contents
 use Rattle.log_item.specs.declared.LogItem.{LogItem}
 use Rattle.log_item.specs.declared.EntryIndex.{EntryIndex}
-use Rattle.log_item.proofs.Place.{cut}
+use Rattle.words.proofs.Place.{cut}
 use Rattle.log_item.proofs.Forms.{in-form}
 use Rattle.log_item.proofs.Complete.{complete-item}
 use Rattle.log_item.specs.Bytes.{spanBytes, commandBytes, opBytes, entriesBytes, contentBytes, headBytes, tailsBytes}

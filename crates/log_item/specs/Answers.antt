@@ -5,8 +5,7 @@ use Prim.Native.Nat.{ℕ, _+_}
 use mathlib.Core.List.{List}
 use lib.ListN.{length}
 use Rattle.log_item.specs.Got.{Got, got, refused, Reading, done, here, _>>=_}
-use Rattle.log_item.specs.Entries.{entriesOf}
-use Rattle.log_item.specs.Reading.{head, tails}
+use Rattle.log_item.specs.Reading.{head, withTails}
 use Rattle.log_item.specs.declared.Form.{Form}
 use Rattle.log_item.specs.declared.Span.{Span}
 use Rattle.log_item.specs.declared.Field.{Field}
@@ -55,22 +54,16 @@ unfoldable pub countedItem : Form → List ℕ → ℕ → ℕ → Reading Count
 countedItem form s e t = do
   x ← head form s e
   p ← here
-  (rows, u) ← tails form s (entriesOf (x .content) .count) (entriesOf (x .content) .«first_index») t
-  done (record { item = x; tailsAt = p; total = u; used = e + length rows })
+  r ← withTails form s x t
+  done (record { item = r .item; tailsAt = p; total = r .total; used = e + length (r .rows) })
 
 -- what going over an item answers
 abbrev pub passedGot : Passed → Got (ℕ × ℕ)
 passedGot (passed.Done q u e) = got (u, e) q
 passedGot (passed.Refused r) = refused r
 
--- the total and the number of entries after an item, with what it is forgotten
+-- the total and the number of entries after an item; the item and the place of its tails are forgotten
 unfoldable pub passItem : Form → List ℕ → ℕ → ℕ → Reading (ℕ × ℕ)
 passItem form s e t = do
   r ← countedItem form s e t
   done (r .total, r .used)
-
--- n tails without their rows: the total after them. The indexes do not matter
-unfoldable pub passTails : Form → List ℕ → ℕ → ℕ → Reading ℕ
-passTails form s n t = do
-  (rows, u) ← tails form s n 0 t
-  done u

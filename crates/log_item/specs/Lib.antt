@@ -7,7 +7,7 @@ pub mod Blank
 pub mod Each
 pub mod Limits
 pub mod Spelling
-pub mod Place
+pub mod ItemSpelled
 pub mod Prefix
 pub mod Bytes
 pub mod Refusing

@@ -19,8 +19,7 @@ use Rattle.log_item.specs.declared.TailsSize.{TailsSize}
 use Rattle.log_item.specs.declared.TailsSize.the-variants.{Fine, TooLarge}
 use Rattle.log_item.specs.Got.{Got, got, refused, Reading, done, _>>=_}
 use Rattle.log_item.specs.Entries.{entriesOf}
-use Rattle.log_item.specs.Reading.{entryIndexes, content}
-use Rattle.log_item.specs.Answers.{passTails}
+use Rattle.log_item.specs.Reading.{entryIndexes, content, tails}
 use Rattle.log_item.specs.declared.Form.{Form}
 use Rattle.log_item.specs.declared.Command.{Command}
 use Rattle.log_item.specs.declared.KeyValue.{KeyValue}
@@ -50,6 +49,12 @@ entriesGot (entries.Refused r) = refused r
 abbrev pub contentGot : ContentRead → Got LogItemContent
 contentGot (contentRead.Done x q) = got x q
 contentGot (contentRead.Refused r) = refused r
+
+-- n tails without their rows: the total after them. The indexes do not matter
+unfoldable pub passTails : Form → List ℕ → ℕ → ℕ → Reading ℕ
+passTails form s n t = do
+  (rows, u) ← tails form s n 0 t
+  done u
 
 module _ (form : Form) (s : List ℕ) where
   -- the tails that entries state, with e entries and the total t before them: the total and the number of entries after them

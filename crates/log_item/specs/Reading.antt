@@ -101,9 +101,14 @@ module _ (form : Form) (s : List ℕ) where
     (rows, u) ← tails n (i + 1) w
     done (tailRow i t w ∷ rows, u)
 
+  -- the tails of an item whose head was read, with the total t before them
+  abbrev pub withTails : LogItem → ℕ → Reading Read
+  withTails x t = do
+    (rows, u) ← tails (entriesOf (x .content) .count) (entriesOf (x .content) .«first_index») t
+    done (record { item = x; rows = rows; total = u })
+
   -- an item, with e entries and the total t before it
   unfoldable pub oneItem : ℕ → ℕ → Reading Read
   oneItem e t = do
     x ← head e
-    (rows, u) ← tails (entriesOf (x .content) .count) (entriesOf (x .content) .«first_index») t
-    done (record { item = x; rows = rows; total = u })
+    withTails x t

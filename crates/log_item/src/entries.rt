@@ -2,8 +2,8 @@
 ghost use mathlib.Core.Path.{_≡_};
 ghost use Rattle.log_item.specs.Pieces.{number};
 ghost use Rattle.log_item.specs.Reading.{entryCount, firstIndex};
-ghost use Rattle.log_item.specs.Private.{entriesGot};
-ghost use Rattle.log_item.specs.Answers.{fieldGot, tailGot, passTails};
+ghost use Rattle.log_item.specs.Private.{entriesGot, passTails};
+ghost use Rattle.log_item.specs.Answers.{fieldGot, tailGot};
 use crate::EntryIndexes;
 use crate::EntryIndexesRead;
 use crate::Field;
@@ -61,7 +61,7 @@ pub(crate) fn read_first_index(buf: &[u8], at: usize, count: usize, form: Form) 
 }
 
 // Goes over `count` tails: the total and the place after them.
-pub fn skip_tails(buf: &[u8], at: usize, count: usize, before: u32, form: Form) -> TailRead
+pub(crate) fn skip_tails(buf: &[u8], at: usize, count: usize, before: u32, form: Form) -> TailRead
     ensures { λ r. ⌜ tailGot r ≡ passTails form (now (buf .entry)) count before at ⌝ }
 {
     let mut left = count;

@@ -12,7 +12,6 @@ mod prefix;
 mod refusing;
 mod writing;
 
-pub use entries::skip_tails;
 pub use piece::read_byte;
 pub use piece::read_number;
 pub use piece::read_span;
@@ -25,6 +24,7 @@ ghost use Rattle.log_item.specs.Private.{commandGot, entriesGot, content
 ghost use Rattle.log_item.specs.Answers.{headGot, tailGot, itemGot, countedItem};
 use entries::read_count;
 use entries::read_first_index;
+use entries::skip_tails;
 
 // Where bytes stand in the body.
 pub struct Span {

@@ -19,8 +19,8 @@ use crate::piece::read_byte;
 use crate::piece::read_number;
 
 impl LogItem {
-    // Goes over the item at a place: what decode answers, with the item left out, and in a form. It is quicker than decode, since no
-    // item is handed back.
+    // Goes over the item at a place: what decode answers but the item and the place of its tails, and in a form. It is quicker than
+    // decode, since no item is handed back.
     pub fn pass(buf: &[u8], at: usize, total: u32, used: usize, form: Form) -> Passed
         ensures { λ r. ⌜ passedGot r ≡ passItem form (now (buf .entry)) used total at ⌝ }
     {

@@ -74,12 +74,12 @@ fn tails(
 pub(crate) fn read(line: &[u8]) -> bool {
     let mut buf = [0u8; 1024];
     let signature = line::short(line, 2);
-    let count = line::bytes(line, 3, &mut buf);
-    let footed = list_writer::write_footer(signature, &mut buf, 0, count);
+    let len = line::bytes(line, 3, &mut buf);
+    let footed = list_writer::write_footer(signature, &mut buf, 0, len);
     let n = if line::first_letter(line) == b'i' {
         footed
     } else {
-        count
+        len
     };
     let bytes = line::front(&buf, n);
     table_agrees(line, LogItemBatch::decode(bytes, signature), bytes)

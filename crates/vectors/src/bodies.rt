@@ -10,12 +10,12 @@ use log_batch::PlainForm;
 pub(crate) fn case(line: &[u8]) {
     let mut buf = [0u8; 2048];
     let signature = line::short(line, 2);
-    let count = line::bytes(line, 3, &mut buf);
-    let footed = list_writer::write_footer(signature, &mut buf, 0, count);
+    let len = line::bytes(line, 3, &mut buf);
+    let footed = list_writer::write_footer(signature, &mut buf, 0, len);
     let n = if line::first_letter(line) == b'i' {
         footed
     } else {
-        count
+        len
     };
     let table = read(line::first_letter(line), line::front(&buf, n), signature);
     tables::line(line::word(line, 0), line::word(line, 1), table);

@@ -1,7 +1,8 @@
 -- `log_item::entries::skip_tails` meets its contract. The tails that are left come to what all of them do.
 -- Assumes nothing.
 use mathlib.Core.Path.{_≡_, refl, sym, _∙_}
-use Rattle.log_item.specs.Answers.{fieldGot, passTails}
+use Rattle.log_item.specs.Answers.{fieldGot}
+use Rattle.log_item.specs.Private.{passTails}
 use Rattle.log_item.proofs.Pieces.{learnt}
 use Rattle.log_item.proofs.Reading.{tail-large, tail-falls, tail-done, tail-refused}
 use Rattle.log_item.proofs.Counted.{pass-end, pass-next, pass-stop}

@@ -1,4 +1,4 @@
--- Bytes that stand in a list from one place to another, and the reading of one byte.
+-- Bytes that stand in a list from one place to another.
 -- Assumes nothing.
 use Prim.Native.Nat.{ℕ, _+_, _≤_, _<_}
 use mathlib.Core.Path.{_≡_, refl, sym, ap, _∙_}
@@ -7,13 +7,9 @@ use native.Mathlib.Omega.{arith}
 use native.Mathlib.Numerals.{add-one}
 use lib.ListN.{length, getD, drop, length-append, length-drop}
 use lib.Seq.{drop-cons, drop-drop, drop-append-seam}
-use borrow.Author.Tests.{lt-ltb}
 use Rattle.words.specs.Byte.{Bytes}
-use Rattle.words.proofs.Bytes.{bytes-front, bytes-drop}
-use Rattle.log_item.specs.Got.{got}
-use Rattle.log_item.specs.Pieces.{byte}
-use Rattle.log_item.proofs.Holds.{Says, holds, if-below}
 use Rattle.words.specs.Place.{At}
+use Rattle.words.proofs.Bytes.{bytes-front, bytes-drop}
 
 -- Bytes with others behind them begin them.
 pub at-front : (x y : List ℕ) → At (x ++ y) 0 (length x) x
@@ -45,16 +41,3 @@ module _ {s : List ℕ} where
   -- What stands in a list of bytes is bytes.
   pub bytes-at : {p q : ℕ} {x : List ℕ} → At s p q x → Bytes s → Bytes x
   bytes-at {p} {q} {x} f b = bytes-front x (drop q s) (rw (f .stand) at (bytes-drop p s b))
-
-  -- A byte that stands at a place is read there.
-  pub complete-byte : {b p q : ℕ} → At s p q (b ∷ []) → byte s p ≡ got b q
-  unfolding byte
-  complete-byte {b} {p} {q} f =
-      let h : p < length s = omega (arith, f .ends, at-inside f (omega arith)) in
-      let e : q ≡ p + 1 = f .ends in
-      rw (lt-ltb _ _ h) (cc (drop-cons s p 0 h, f .stand))
-
--- A byte that is read at a place stands there.
-pub sound-byte : (s : List ℕ) (p : ℕ) → Says (λ b q. At s p q (b ∷ [])) (byte s p)
-unfolding byte
-sound-byte s p = if-below p (length s) _ _ _ λ h. holds (at-byte p h)
