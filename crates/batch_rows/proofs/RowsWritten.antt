@@ -7,7 +7,7 @@ use mathlib.Core.List.{List}
 use native.Mathlib.Omega.{arith}
 use lib.Dec.{eqb}
 use borrow.Author.Tests.{eqb-true, eqb-false}
-use Rattle.list_measure.specs.declared.Measured.{Measured}
+use Rattle.list_writer.specs.declared.Measured.{Measured}
 use Rattle.list_writer.proofs.Bodies.{accepted, body-length}
 use Rattle.rows_writer.specs.Rows.{rowItems, entryLengths, measureRows, rowsBytes}
 use Rattle.rows_writer.proofs.RowsMeasuring.{rows-accepted}

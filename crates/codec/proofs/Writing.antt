@@ -11,8 +11,8 @@ use lib.Seq.{sets}
 use Rattle.words.specs.Write.{placed, wroteAt}
 use Rattle.words.specs.declared.Wrote.the-variants.{Next, NoRoom}
 use Rattle.words.proofs.Writing.{no-room, room-for}
-use Rattle.numbers.specs.Shortest.{spell, shortest}
-use Rattle.numbers.proofs.Shortest.{Size, small, large, size, spell-one, spell-more, spell-pos, fewer, shortest-few}
+use Rattle.codec.specs.Shortest.{spell, shortest}
+use Rattle.codec.proofs.Shortest.{Size, small, large, size, spell-one, spell-more, spell-pos, fewer, shortest-few}
 
 -- What holds at the head of the writer's loop: what is left has a spelling, which still has to be stored from i on.
 pub record Writes (n : ℕ) (out₀ : List ℕ) (at : ℕ) (out : List ℕ) (left i : ℕ) : Type 0 where

@@ -11,7 +11,7 @@ use lib.ListN.{length, take, drop, length-append}
 use lib.Seq.{sets-eq, take-at}
 use borrow.Author.Tests.{eq-eqb, ne-eqb, le-leb, lt-leb, leb-true, eqb-false}
 use Rattle.refusal.proofs.First.{not-first, not-second}
-use Rattle.numbers.specs.Shortest.{shortest}
+use Rattle.codec.specs.Shortest.{shortest}
 use Rattle.words.specs.Word.{littleEndianBytes}
 use Rattle.words.specs.Write.{nextAt, placed}
 use Rattle.words.proofs.Words.{length-little}
@@ -19,16 +19,14 @@ use Rattle.crc.specs.Crc.{crcOf}
 use Rattle.log_item.specs.declared.LogItem.{LogItem}
 use Rattle.log_item.specs.Private.{Room, Stored}
 use Rattle.log_item.proofs.Stores.{stored-at, stored-stands, stored-then, stored-length}
-use Rattle.list_measure.specs.declared.Measured.{Measured}
+use Rattle.list_writer.specs.declared.Measured.{Measured}
 use Rattle.list_writer.specs.declared.Encoded.{Encoded}
-use Rattle.list_measure.specs.Bytes.{itemsBytes, listBytes}
-use Rattle.list_writer.specs.Bytes.{footed, bodyBytes}
-use Rattle.list_measure.specs.Refusing.{fine, itemsVerdict, listVerdict}
-use Rattle.list_measure.specs.Answers.{measureOf}
-use Rattle.list_writer.specs.Answers.{encoded, encodedIn, encodedOf, laid, MeasuredWritten}
+use Rattle.list_writer.specs.Bytes.{itemsBytes, listBytes, footed, bodyBytes}
+use Rattle.list_writer.specs.Refusing.{fine, itemsVerdict, listVerdict}
+use Rattle.list_writer.specs.Answers.{measureOf, encoded, encodedIn, encodedOf, laid, MeasuredWritten}
 use Rattle.list_writer.specs.Pieces.{footerOf, footerNext, footerPlaced}
 use Rattle.list_writer.proofs.Pieces.{footer-stored}
-use Rattle.list_measure.proofs.Measuring.{sized-where, list-fine}
+use Rattle.list_writer.proofs.Measuring.{sized-where, list-fine}
 use Rattle.list_writer.proofs.Writing.{Writing, writing-start, writing-end}
 
 -- ---- what a length that is not 0 tells

@@ -5,7 +5,13 @@ use mathlib.Core.Path.{_≡_, sym, _∙_}
 use mathlib.Core.List.{List}
 use denote.Ref.{now}
 use Rattle.one_answer.specs.OneAnswer.{OneAnswer}
-use Rattle.list_measure.specs.declared.Measured.{Measured}
+use Rattle.list_writer.proofs.measure.Kinds as measure-kinds
+use Rattle.list_writer.proofs.measure.Reads as measure-reads
+use Rattle.list_writer.proofs.finish.Kinds as finish-kinds
+use Rattle.list_writer.proofs.finish.Reads as finish-reads
+use Rattle.list_writer.proofs.refuse.Kinds as refuse-kinds
+use Rattle.list_writer.proofs.refuse.Reads as refuse-reads
+use Rattle.list_writer.specs.declared.Measured.{Measured}
 use Rattle.list_writer.specs.declared.Encoded.{Encoded}
 use Rattle.list_writer.specs.Answers.{MeasuredWritten}
 use Rattle.list_writer.proofs.encode.Kinds as encode-kinds
@@ -18,6 +24,15 @@ use Rattle.list_writer.proofs.write_head.Kinds as write-head-kinds
 use Rattle.list_writer.proofs.write_head.Reads as write-head-reads
 use Rattle.list_writer.proofs.write_footer.Kinds as write-footer-kinds
 use Rattle.list_writer.proofs.write_footer.Reads as write-footer-reads
+
+pub measure : OneAnswer 1 measure-kinds.ps measure-kinds.r measure-reads.Post (λ κs x y s t. x ≡ y)
+measure κs a x y s t p q = p ∙ sym q
+
+pub finish : OneAnswer 0 finish-kinds.ps finish-kinds.r finish-reads.Post (λ κs x y s t. x ≡ y)
+finish κs a x y s t p q = p ∙ sym q
+
+pub refuse : OneAnswer 0 refuse-kinds.ps refuse-kinds.r refuse-reads.Post (λ κs x y s t. x ≡ y)
+refuse κs a x y s t p q = p ∙ sym q
 
 -- A measured body has one answer, and leaves one buffer.
 pub written-once : {m : Measured} {bytes out : List ℕ} {at : ℕ} {x y : Encoded} {later other : List ℕ} → MeasuredWritten m bytes out at x later

@@ -8,7 +8,7 @@ use native.Mathlib.Omega.{arith}
 use lib.Dec.{ltb}
 use lib.ListN.{length, getD, length-append}
 use borrow.Author.Tests.{ltb-false}
-use Rattle.numbers.specs.Shortest.{shortest}
+use Rattle.codec.specs.Shortest.{shortest}
 use Rattle.words.specs.Write.{nextAt, placed}
 use Rattle.log_item.specs.Entries.{entriesOf}
 use Rattle.log_item.specs.declared.LogItem.{LogItem}
@@ -18,12 +18,12 @@ use Rattle.log_item.specs.Private.{Room, Stored}
 use Rattle.log_item.proofs.Refusals.{content-inside, content-allowed}
 use Rattle.log_item.proofs.Stores.{stored-none, stored-at, stored-then, stored-length, stored-same}
 use Rattle.log_item.specs.Blank.{blankItem}
-use Rattle.list_measure.specs.Bytes.{itemsBytes}
-use Rattle.list_measure.specs.Refusing.{fine, itemsVerdict}
+use Rattle.list_writer.specs.Bytes.{itemsBytes}
+use Rattle.list_writer.specs.Refusing.{fine, itemsVerdict}
 use Rattle.list_writer.specs.Pieces.{headNext, headPlaced}
 use Rattle.list_writer.proofs.Pieces.{head-stored}
-use Rattle.list_measure.proofs.Heads.{unless-fine, cond-fine}
-use Rattle.list_measure.proofs.Rest.{restBytes, bytes-row, bytes-item, bytes-end, bytes-start, restVerdict, told-row, told-item, told-start}
+use Rattle.list_writer.proofs.Heads.{unless-fine, cond-fine}
+use Rattle.list_writer.proofs.Rest.{restBytes, bytes-row, bytes-item, bytes-end, bytes-start, restVerdict, told-row, told-item, told-start}
 
 -- Storing what is left from `at` on completes the items from `start` on; four bytes behind it stay free, and no refusal is left.
 pub record Writing (s : List ℕ) (xs : List LogItem) (ns out₀ : List ℕ) (start : ℕ) (out : List ℕ) (at i j tails t : ℕ) : Type 0 where

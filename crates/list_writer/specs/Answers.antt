@@ -1,14 +1,29 @@
--- What the body writer answers, and what it leaves in the buffer.
+-- What the measure of a body and its writer answer, and what the writer leaves in the buffer.
 -- Assumes nothing.
 use Prim.Native.Nat.{ℕ, _+_}
-use mathlib.Core.Path.{_≡_}
-use mathlib.Core.Bool.{cond}
+use mathlib.Core.Bool.{Bool, cond}
 use mathlib.Core.List.{List}
-use lib.Dec.{leb, eqb}
+use mathlib.Core.Path.{_≡_}
+use lib.Dec.{ltb, leb, eqb}
 use lib.ListN.{length}
+use Rattle.log_item.specs.declared.LogItem.{LogItem}
+use Rattle.list_writer.specs.declared.Measured.{Measured}
+use Rattle.list_writer.specs.Bytes.{listBytes}
+use Rattle.list_writer.specs.Refusing.{Verdict, fine, refused, listVerdict}
 use Rattle.words.specs.Write.{placed}
-use Rattle.list_measure.specs.declared.Measured.{Measured}
 use Rattle.list_writer.specs.declared.Encoded.{Encoded}
+
+abbrev pub measured : ℕ → ℕ → ℕ → ℕ → Measured
+measured number item len total = record { number = number; item = item; length = len; total = total }
+
+-- the verdict on a list of n bytes, then 22: the footer has four
+unfoldable pub measuredOf : Verdict → ℕ → Measured
+measuredOf (refused number item) n = measured number item 0 0
+measuredOf (fine total) n = cond (ltb 4294967295 (n + 4)) (measured 22 0 0 0) (measured 0 0 (n + 4) total)
+
+-- the first refusal but 21, or the body's length and the entry total
+unfoldable pub measureOf : List ℕ → Bool → List LogItem → List ℕ → Measured
+measureOf s checked xs lengths = measuredOf (listVerdict s checked xs lengths) (length (listBytes s xs lengths))
 
 abbrev pub encoded : ℕ → ℕ → ℕ → Encoded
 encoded number item len = record { number = number; item = item; length = len }

@@ -1,3 +1,4 @@
 pub mod Bytes
+pub mod Refusing
 pub mod Answers
 pub mod Pieces

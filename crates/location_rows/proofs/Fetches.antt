@@ -9,10 +9,10 @@ use lib.ListN.{length, take, drop}
 use Rattle.location_rules.specs.declared.Table.{Table}
 use Rattle.location_rules.specs.declared.Stop.{Stop}
 use Rattle.location_rules.specs.Parts.{inReach}
-use Rattle.location_answers.specs.declared.Fetched.{Fetched}
+use Rattle.location_rules.specs.declared.Fetched.{Fetched}
 use Rattle.memtable.specs.Rows.{runOf}
 use Rattle.memtable.specs.Table.{wellFormed}
-use Rattle.location_answers.specs.Decisions.{noRun, fetched}
+use Rattle.location_rules.specs.Decisions.{noRun, fetched}
 use Rattle.memtable.specs.Fetching.{fetchOf}
 use Rattle.memtable.proofs.Surveys.{fetched-by}
 use Rattle.memtable.proofs.Fetches.{fetched-is}

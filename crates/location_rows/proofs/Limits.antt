@@ -7,8 +7,8 @@ use mathlib.Core.Bool.{Bool, true, false, not, cond, _&&_}
 use lib.Dec.{eqb}
 use borrow.Author.Tests.{eqb-true, eqb-false, eq-eqb, ne-eqb}
 use Rattle.location_rules.specs.declared.Table.{Table}
-use Rattle.location_answers.specs.declared.Rewritten.{Rewritten}
-use Rattle.location_answers.specs.Decisions.{unchanged}
+use Rattle.location_rules.specs.declared.Rewritten.{Rewritten}
+use Rattle.location_rules.specs.Decisions.{unchanged}
 use Rattle.location_rules.specs.Parts.{inReach}
 use Rattle.location_rows.specs.Answers.{limited}
 

@@ -12,16 +12,16 @@ use Rattle.pipe_log.specs.declared.Location.{Location}
 use Rattle.location_rules.specs.declared.Table.{Table}
 use Rattle.location_rules.specs.declared.Gate.{Gate}
 use Rattle.location_rules.specs.declared.Stop.{Stop}
-use Rattle.location_answers.specs.declared.Overlap.{Overlap}
-use Rattle.location_answers.specs.declared.Rewritten.{Rewritten}
+use Rattle.location_rules.specs.declared.Overlap.{Overlap}
+use Rattle.location_rules.specs.declared.Rewritten.{Rewritten}
 use Rattle.memtable.specs.Rows.{runOf}
 use Rattle.memtable.specs.Table.{wellFormed, ready}
-use Rattle.location_answers.specs.Decisions.{unchanged, answered}
+use Rattle.location_rules.specs.Decisions.{unchanged, answered}
 use Rattle.location_rules.specs.Row.{stopOf}
 use Rattle.memtable.specs.Rewriting.{rewriteOf, rowsAfter}
 use Rattle.location_rules.specs.Parts.{inReach, readyBy}
-use Rattle.location_answers.specs.Overlaps.{overlapOf}
-use Rattle.location_answers.proofs.Deciding as decide
+use Rattle.location_rules.specs.Overlaps.{overlapOf}
+use Rattle.location_rules.proofs.Deciding as decide
 use Rattle.memtable.proofs.Surveys.{ready-by}
 use Rattle.memtable.proofs.Rewrites.{run-fits, rewritten-by}
 use Rattle.memtable.proofs.Theorems.{refused-kept}

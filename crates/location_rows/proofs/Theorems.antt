@@ -13,9 +13,9 @@ use Rattle.pipe_log.specs.declared.Location.{Location}
 use Rattle.pipe_log.specs.declared.LogQueue.{LogQueue}
 use Rattle.location_rules.specs.declared.Table.{Table}
 use Rattle.location_rules.specs.declared.Gate.{Gate}
-use Rattle.location_answers.specs.declared.Rewritten.{Rewritten}
+use Rattle.location_rules.specs.declared.Rewritten.{Rewritten}
 use Rattle.memtable.specs.Table.{wellFormed}
-use Rattle.location_answers.specs.Decisions.{unchanged, Kept}
+use Rattle.location_rules.specs.Decisions.{unchanged, Kept}
 use Rattle.memtable.specs.Rewriting.{rewriteOf, rowsAfter}
 use Rattle.memtable.proofs.Theorems.{refused-kept}
 use Rattle.location_rows.specs.Words.{startsWell, locationOf, areRows, locationCount, Rows, rows, broken, rowsOf, queueOf, queueWord, rowWords, rowsWords, located}

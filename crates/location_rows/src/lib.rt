@@ -9,14 +9,14 @@ ghost use Rattle.memtable.specs.Rows.{runOf};
 ghost use Rattle.location_rows.specs.Words.{locationCount, queueOf, areRows, located};
 ghost use Rattle.location_rows.specs.Answers.{tableFrom, limited, RowsRewritten, fetchWords};
 ghost use Rattle.location_rows.specs.Private.{formedWords, readyWords};
-use location_answers::Fetched;
-use location_answers::Rewritten;
-use location_answers::no_run;
-use location_answers::unchanged;
+use location_rules::Fetched;
 use location_rules::Gate;
+use location_rules::Rewritten;
 use location_rules::Stop;
 use location_rules::Table;
 use location_rules::in_reach;
+use location_rules::no_run;
+use location_rules::unchanged;
 use pipe_log::Location;
 use pipe_log::LogQueue;
 
@@ -40,10 +40,10 @@ pub fn rewrite(
     let m = incoming.len() / 6;
     let good = is_well_formed(table, t);
     let ready = is_ready(incoming, incoming_first);
-    let over = location_answers::overlap_of(first_index, n, incoming_first, m);
+    let over = location_rules::overlap_of(first_index, n, incoming_first, m);
     let stop = location_rules::stop_of(gate);
     let end = scan(table, over.start, over.end, stop);
-    let decided = location_answers::decide(good, ready, t, over, end, gate);
+    let decided = location_rules::decide(good, ready, t, over, end, gate);
     let answer = limit(n, m, t, decided);
     replace(
         table,
@@ -66,13 +66,13 @@ pub fn fetch(table: &[u64], first_index: u64, rewritten: u64, gate: u64) -> Fetc
     let n = table.len() / 6;
     let count = t.count;
     if !is_well_formed(table, t) {
-        return location_answers::run_from(false, t, 0, 0);
+        return location_rules::run_from(false, t, 0, 0);
     }
     if !in_reach(n, 0) {
         return no_run(refusal::OUTPUT_SHORT);
     }
     let end = scan(table, count, n, Stop::Above(gate));
-    location_answers::run_from(true, t, count, end)
+    location_rules::run_from(true, t, count, end)
 }
 
 // Whether each row is a location's, and the table is well formed.

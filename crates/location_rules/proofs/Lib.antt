@@ -1,2 +1,4 @@
+pub mod Overlaps
+pub mod Deciding
 pub mod Forming
 pub mod Determined

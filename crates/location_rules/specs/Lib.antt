@@ -1,2 +1,4 @@
+pub mod Overlaps
+pub mod Decisions
 pub mod Row
 pub mod Parts

@@ -7,10 +7,10 @@ use lib.ListN.{take, drop}
 use Rattle.pipe_log.specs.declared.Location.{Location}
 use Rattle.location_rules.specs.declared.Table.{Table}
 use Rattle.location_rules.specs.declared.Gate.{Gate}
-use Rattle.location_answers.specs.declared.Rewritten.{Rewritten}
-use Rattle.location_answers.specs.declared.Fetched.{Fetched}
+use Rattle.location_rules.specs.declared.Rewritten.{Rewritten}
+use Rattle.location_rules.specs.declared.Fetched.{Fetched}
 use Rattle.location_rules.specs.Parts.{inReach}
-use Rattle.location_answers.specs.Decisions.{unchanged, noRun}
+use Rattle.location_rules.specs.Decisions.{unchanged, noRun}
 use Rattle.memtable.specs.Rewriting.{rewriteOf, rowsAfter}
 use Rattle.memtable.specs.Fetching.{fetchOf}
 

@@ -3,13 +3,13 @@
 ghost use mathlib.Core.Path.{_≡_};
 ghost use Rattle.location_table.specs.Private.{rowsUsed};
 ghost use Rattle.location_table.specs.Values.{rewriteValue, rowsValue, fetchValue, answerOf, fetchedOf};
-use location_answers::Fetched;
-use location_answers::Rewritten;
-use location_answers::no_run;
-use location_answers::unchanged;
+use location_rules::Fetched;
 use location_rules::Gate;
+use location_rules::Rewritten;
 use location_rules::Table;
 use location_rules::in_reach;
+use location_rules::no_run;
+use location_rules::unchanged;
 use pipe_log::Location;
 
 // What a rewrite by value leaves: its answer, and the rows after it.

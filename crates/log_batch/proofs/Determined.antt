@@ -23,7 +23,7 @@ use Rattle.log_batch.proofs.table.read_items.Kinds as read-items-kinds
 use Rattle.log_batch.proofs.table.read_items.Reads as read-items-reads
 use Rattle.log_batch.proofs.LogItemBatch.decode.Kinds as decode-log-item-batch-kinds
 use Rattle.log_batch.proofs.LogItemBatch.decode.Reads as decode-log-item-batch-reads
-use Rattle.list_measure.specs.declared.Measured.{Measured}
+use Rattle.list_writer.specs.declared.Measured.{Measured}
 use Rattle.list_writer.specs.declared.Encoded.{Encoded}
 use Rattle.list_writer.proofs.Determined.{written-once}
 use Rattle.log_batch.proofs.LogItemBatch.encode.Kinds as encode-log-item-batch-kinds

@@ -9,9 +9,9 @@ use denote.Enum.Declared.{tagOf}
 use mathlib.Core.Logic.{inl, inr}
 use lib.ListN.{length, take, set, replicate}
 use Rattle.refusal.specs.declared.Refusal.{Refusal}
-use Rattle.numbers.specs.declared.NumberRead.{NumberRead}
-use Rattle.numbers.specs.declared.NumberRead.the-variants.{Done, Eof, Overflow}
-use Rattle.numbers.proofs.NumberRead.{the-type}
+use Rattle.codec.specs.declared.NumberRead.{NumberRead}
+use Rattle.codec.specs.declared.NumberRead.the-variants.{Done, Eof, Overflow}
+use Rattle.codec.proofs.NumberRead.{the-type}
 use Rattle.log_item.specs.Got.{got, refused}
 use Rattle.log_item.specs.Entries.{entriesOf, tailRow}
 use Rattle.log_item.specs.Pieces.{numberGot}

@@ -14,7 +14,7 @@ use Rattle.words.proofs.Writing.{room-for}
 use Rattle.crc.specs.Crc.{crcOf}
 use Rattle.log_item.specs.Private.{Room, Stored}
 use Rattle.log_item.proofs.Stores.{stored-then, stored-length, stored-same, stored-placed}
-use Rattle.list_measure.specs.declared.Measured.{Measured}
+use Rattle.list_writer.specs.declared.Measured.{Measured}
 use Rattle.list_writer.specs.declared.Encoded.{Encoded}
 use Rattle.list_writer.specs.Answers.{encoded, laid}
 use Rattle.log_batch.specs.Front.{blockBytes, bodyOffset, headerBytes, frontBytes, batchEncoded, frontEncoded, FrontWritten}

@@ -16,15 +16,13 @@ use Rattle.log_item.specs.Entries.{entriesOf}
 use Rattle.log_item.specs.declared.LogItem.{LogItem}
 use Rattle.log_item.specs.Refusing.{contentRefusal}
 use Rattle.log_item.specs.Written.{sumOf, rowLengths, tailRefusal}
-use Rattle.list_measure.specs.declared.Measured.{Measured}
+use Rattle.list_writer.specs.declared.Measured.{Measured}
 use Rattle.list_writer.specs.declared.Encoded.{Encoded}
-use Rattle.list_measure.specs.Bytes.{listBytes}
-use Rattle.list_writer.specs.Bytes.{bodyBytes}
-use Rattle.list_measure.specs.Refusing.{Verdict, fine, refused, unlessItem, itemsVerdict, listVerdict}
-use Rattle.list_measure.specs.Answers.{measureOf}
-use Rattle.list_writer.specs.Answers.{encoded, encodedIn, encodedOf, laid, MeasuredWritten}
-use Rattle.list_measure.proofs.Heads.{unless-fine}
-use Rattle.list_measure.proofs.Measuring.{HasLength, Measures, sized, unsized, measures}
+use Rattle.list_writer.specs.Bytes.{listBytes, bodyBytes}
+use Rattle.list_writer.specs.Refusing.{Verdict, fine, refused, unlessItem, itemsVerdict, listVerdict}
+use Rattle.list_writer.specs.Answers.{measureOf, encoded, encodedIn, encodedOf, laid, MeasuredWritten}
+use Rattle.list_writer.proofs.Heads.{unless-fine}
+use Rattle.list_writer.proofs.Measuring.{HasLength, Measures, sized, unsized, measures}
 use Rattle.list_writer.proofs.Bodies.{accepted, body-length, placing-refused, placing-21, placing-fits}
 
 -- ---- items

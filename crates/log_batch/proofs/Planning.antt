@@ -15,14 +15,12 @@ use Rattle.words.specs.Word.{bigEndianBytes, littleEndianBytes}
 use Rattle.words.proofs.Words.{length-big, length-little}
 use Rattle.crc.specs.Crc.{crcOf}
 use Rattle.log_item.specs.declared.LogItem.{LogItem}
-use Rattle.list_measure.specs.declared.Measured.{Measured}
+use Rattle.list_writer.specs.declared.Measured.{Measured}
 use Rattle.list_writer.specs.declared.Encoded.{Encoded}
-use Rattle.list_measure.specs.Bytes.{listBytes}
-use Rattle.list_measure.specs.Refusing.{fine, listVerdict}
-use Rattle.list_measure.specs.Answers.{measureOf}
-use Rattle.list_measure.proofs.Measuring.{Measures, sized, unsized, measures, sized-where}
-use Rattle.list_writer.specs.Bytes.{footed}
-use Rattle.list_writer.specs.Answers.{encoded}
+use Rattle.list_writer.specs.Bytes.{listBytes, footed}
+use Rattle.list_writer.specs.Refusing.{fine, listVerdict}
+use Rattle.list_writer.specs.Answers.{measureOf, encoded}
+use Rattle.list_writer.proofs.Measuring.{Measures, sized, unsized, measures, sized-where}
 use Rattle.list_writer.proofs.Bodies.{some-length}
 use Rattle.log_batch.specs.Front.{blockBytes, bodyOffset, headerBytes, frontBytes, batchEncoded}
 

@@ -12,7 +12,7 @@ use lib.Dec.{lit<}
 use lib.ListN.{length, take, drop, length-append}
 use lib.Seq.{take-at}
 use borrow.Author.Tests.{lt-leb, ne-eqb}
-use Rattle.numbers.specs.Shortest.{shortest}
+use Rattle.codec.specs.Shortest.{shortest}
 use Rattle.words.specs.Word.{littleEndian, littleEndianBytes}
 use Rattle.words.proofs.Words.{length-little, little-endian-back}
 use Rattle.crc.specs.Crc.{crcOf}
@@ -44,10 +44,9 @@ use Rattle.log_item.proofs.Refusals.{content-inside, content-allowed}
 use Rattle.log_item.proofs.Spelled.{Writable, first-small, written-item, read-item-at, spans-kept}
 use Rattle.list_writer.specs.declared.Encoded.{Encoded}
 use Rattle.log_item.specs.Blank.{blankItem}
-use Rattle.list_measure.specs.Bytes.{itemsOf, itemsBytes, listBytes}
-use Rattle.list_writer.specs.Bytes.{footed, bodyBytes}
-use Rattle.list_measure.specs.Refusing.{fine, itemsVerdict, listVerdict}
-use Rattle.list_measure.proofs.Measuring.{list-fine}
+use Rattle.list_writer.specs.Bytes.{itemsOf, itemsBytes, listBytes, footed, bodyBytes}
+use Rattle.list_writer.specs.Refusing.{fine, itemsVerdict, listVerdict}
+use Rattle.list_writer.proofs.Measuring.{list-fine}
 use Rattle.log_batch.proofs.ListWritten.{items-fine, Encodes, writes, leaves, encodes}
 use Rattle.log_batch.specs.declared.LogItemBatch.{LogItemBatch}
 use Rattle.log_batch.specs.Reading.{accepted, rejected}

@@ -12,8 +12,8 @@ use borrow.Author.Tests.{le-leb, eq-eqb, ne-eqb}
 use lib.ListN.{length, take, drop}
 use lib.Seq.{take-at}
 use lib.Bits.{bitXor}
-use Rattle.numbers.specs.Number.{readFrom, readNumber}
-use Rattle.numbers.specs.Shortest.{spell, shortest}
+use Rattle.codec.specs.Number.{readFrom, readNumber}
+use Rattle.codec.specs.Shortest.{spell, shortest}
 use Rattle.words.specs.Word.{littleEndian, littleEndianBytes}
 use Rattle.words.specs.Byte.{Bytes}
 use Rattle.words.proofs.Words.{length-little}
@@ -27,11 +27,9 @@ use Rattle.log_item.specs.declared.EntryIndex.{EntryIndex}
 use Rattle.log_item.specs.declared.Form.{Form}
 use Rattle.log_item.specs.declared.Form.the-variants.{Any, Plain}
 use Rattle.list_writer.specs.declared.Encoded.{Encoded}
-use Rattle.list_measure.specs.Bytes.{itemsBytes, listBytes, itemsOf}
-use Rattle.list_writer.specs.Bytes.{bodyBytes, footed}
-use Rattle.list_measure.specs.Refusing.{fine, itemsVerdict, listVerdict}
-use Rattle.list_measure.specs.Answers.{measuredOf, measureOf, measured}
-use Rattle.list_writer.specs.Answers.{encoded, laid, encodedOf}
+use Rattle.list_writer.specs.Bytes.{itemsBytes, listBytes, itemsOf, bodyBytes, footed}
+use Rattle.list_writer.specs.Refusing.{fine, itemsVerdict, listVerdict}
+use Rattle.list_writer.specs.Answers.{measuredOf, measureOf, measured, encoded, laid, encodedOf}
 use Rattle.log_batch.specs.Reading.{accepted, rejected, Answer, readItems}
 use Rattle.log_batch.specs.Body.{readBody}
 use Rattle.log_batch.specs.declared.Wanted.the-variants.{Exactly}
@@ -60,7 +58,7 @@ use Rattle.log_batch.proofs.Planning.{planned, verdict-of, refused-leng
 use Rattle.log_batch.specs.Batch.{blockOf, bodyOf, readBatch}
 use Rattle.log_batch.specs.Examples.{AllRight, table}
 use Rattle.log_batch.specs.Written.{framed, frameOf, BatchWritten}
-use Rattle.list_measure.specs.declared.Measured.{Measured}
+use Rattle.list_writer.specs.declared.Measured.{Measured}
 use Rattle.log_batch.proofs.Written.{list-sized, whole}
 use Rattle.log_batch.proofs.Again.{content-size, block-again, body-again, content-again, front-again}
 use Rattle.log_batch.proofs.Whole.{body-read}

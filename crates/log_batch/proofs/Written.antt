@@ -11,11 +11,10 @@ use borrow.Author.Tests.{ne-eqb, le-leb}
 use Rattle.log_item.specs.declared.LogItem.{LogItem}
 use Rattle.log_item.specs.Private.{Stored}
 use Rattle.log_item.proofs.Stores.{stored-then, stored-length, stored-same}
-use Rattle.list_measure.specs.declared.Measured.{Measured}
-use Rattle.list_measure.specs.Answers.{measureOf}
+use Rattle.list_writer.specs.declared.Measured.{Measured}
+use Rattle.list_writer.specs.Answers.{measureOf, encoded, encodedOf, laid, MeasuredWritten}
 use Rattle.list_writer.specs.declared.Encoded.{Encoded}
 use Rattle.list_writer.specs.Bytes.{bodyBytes}
-use Rattle.list_writer.specs.Answers.{encoded, encodedOf, laid, MeasuredWritten}
 use Rattle.list_writer.proofs.Bodies.{accepted, body-length}
 use Rattle.log_batch.specs.Front.{bodyOffset, frontBytes, batchEncoded, FrontWritten}
 use Rattle.log_batch.proofs.Planning.{block-small, front-length, body-small, planned}

@@ -5,8 +5,8 @@ use mathlib.Core.List.{List, [], _∷_}
 use native.Mathlib.Omega.{arith}
 use lib.Dec.{lit<}
 use lib.ListN.{drop}
-use Rattle.numbers.specs.Shortest.{spell, shortest}
-use Rattle.numbers.proofs.Shortest.{spell-one, spell-more, Size, small, large, size, fewer}
+use Rattle.codec.specs.Shortest.{spell, shortest}
+use Rattle.codec.proofs.Shortest.{spell-one, spell-more, Size, small, large, size, fewer}
 use Rattle.words.specs.Byte.{Bytes}
 use Rattle.words.proofs.Bytes.{bytes-take, bytes-drop}
 use Rattle.log_item.specs.Entries.{typeOf}

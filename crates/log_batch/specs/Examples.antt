@@ -4,7 +4,7 @@ use Prim.Native.Nat.{ℕ, _-_, _^_}
 use mathlib.Core.Path.{_≡_}
 use mathlib.Core.List.{List, [], _∷_}
 use lib.ListN.{length}
-use Rattle.numbers.specs.Shortest.{shortest}
+use Rattle.codec.specs.Shortest.{shortest}
 use Rattle.log_item.specs.Got.{Got, got, refused}
 use Rattle.log_item.specs.Reading.{Read, oneItem}
 use Rattle.log_item.specs.Pieces.{number}

@@ -7,7 +7,7 @@ use mathlib.Core.List.{List, [], _++_}
 use lib.Dec.{ltb, leb, eqb}
 use lib.ListN.{length}
 use Rattle.words.specs.Word.{bigEndianBytes}
-use Rattle.list_measure.specs.declared.Measured.{Measured}
+use Rattle.list_writer.specs.declared.Measured.{Measured}
 use Rattle.list_writer.specs.declared.Encoded.{Encoded}
 use Rattle.list_writer.specs.Bytes.{footed}
 use Rattle.list_writer.specs.Answers.{encoded, laid}

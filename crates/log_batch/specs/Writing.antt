@@ -4,7 +4,7 @@ use Prim.Native.Nat.{ℕ, _+_}
 use mathlib.Core.Bool.{Bool}
 use mathlib.Core.List.{List, [], _∷_, _++_, map}
 use lib.ListN.{length, drop}
-use Rattle.numbers.specs.Shortest.{shortest}
+use Rattle.codec.specs.Shortest.{shortest}
 use Rattle.log_item.specs.Entries.{entriesOf}
 use Rattle.log_item.specs.Prefix.{bytesOf}
 use Rattle.log_item.specs.declared.LogItem.{LogItem}
@@ -13,10 +13,8 @@ use Rattle.log_item.specs.Written as item
 use Rattle.log_item.specs.Each.{Each}
 use Rattle.log_item.specs.Relocated.{itemAt, itemRows, spansOf, numbersOf, Small}
 use Rattle.list_writer.specs.declared.Encoded.{Encoded}
-use Rattle.list_measure.specs.Bytes.{itemsOf, lengthsOf}
-use Rattle.list_writer.specs.Bytes.{bodyBytes}
-use Rattle.list_measure.specs.Answers.{measureOf}
-use Rattle.list_writer.specs.Answers.{MeasuredWritten}
+use Rattle.list_writer.specs.Bytes.{itemsOf, lengthsOf, bodyBytes}
+use Rattle.list_writer.specs.Answers.{measureOf, MeasuredWritten}
 use Rattle.log_batch.specs.declared.LogItemBatch.{LogItemBatch}
 
 -- the items of a table, and the lengths of its entry rows

@@ -5,11 +5,10 @@ use mathlib.Core.Path.{_≡_}
 use mathlib.Core.Bool.{Bool}
 use mathlib.Core.List.{List, _++_}
 use lib.ListN.{length}
-use Rattle.list_measure.specs.declared.Measured.{Measured}
-use Rattle.list_measure.specs.Answers.{measureOf}
+use Rattle.list_writer.specs.declared.Measured.{Measured}
+use Rattle.list_writer.specs.Answers.{measureOf, laid}
 use Rattle.list_writer.specs.declared.Encoded.{Encoded}
 use Rattle.list_writer.specs.Bytes.{bodyBytes}
-use Rattle.list_writer.specs.Answers.{laid}
 use Rattle.log_batch.specs.Front.{bodyOffset, frontBytes, batchEncoded}
 use Rattle.log_batch.specs.Writing.{listed, tableLengths}
 use Rattle.log_batch.specs.declared.LogBatch.{LogBatch}

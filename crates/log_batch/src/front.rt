@@ -6,8 +6,8 @@ ghost use Rattle.log_batch.specs.Front.{bodyOffset, frontBytes, batchEnc
 ghost use Rattle.words.specs.Write.{placed};
 ghost use Rattle.log_item.specs.Private.{Room};
 use crate::LogBatch;
-use list_measure::Measured;
 use list_writer::Encoded;
+use list_writer::Measured;
 
 // Begins a whole batch whose body has this measure: decides every refusal, and where there is none writes header and block at the start
 // of out; the body is to follow, and ends at the length that is answered. Else out is as it was. No body has more than 4294967295

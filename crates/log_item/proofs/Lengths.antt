@@ -7,7 +7,7 @@ use mathlib.Core.List.{List, _∷_, _++_}
 use native.Mathlib.Omega.{arith}
 use borrow.Author.Tests.{leb-true}
 use lib.ListN.{length, take, drop, length-append, length-take, length-drop}
-use Rattle.numbers.specs.Shortest.{shortest, spell}
+use Rattle.codec.specs.Shortest.{shortest, spell}
 use Rattle.log_item.specs.Prefix.{bytesOf, inside}
 use Rattle.log_item.specs.Entries.{typeOf}
 use Rattle.log_item.specs.declared.Span.{Span}

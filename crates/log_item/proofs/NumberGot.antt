@@ -4,11 +4,11 @@ use Prim.Native.Nat.{ℕ, _+_, _≤_, _<_}
 use mathlib.Core.Path.{_≡_, refl}
 use mathlib.Core.List.{List}
 use lib.ListN.{length}
-use Rattle.numbers.specs.Shortest.{shortest}
-use Rattle.numbers.specs.Number.{readNumber}
-use Rattle.numbers.specs.declared.NumberRead.{NumberRead}
-use Rattle.numbers.specs.declared.NumberRead.the-variants.{Done, Eof, Overflow}
-use Rattle.numbers.proofs.Theorems.{read-moves}
+use Rattle.codec.specs.Shortest.{shortest}
+use Rattle.codec.specs.Number.{readNumber}
+use Rattle.codec.specs.declared.NumberRead.{NumberRead}
+use Rattle.codec.specs.declared.NumberRead.the-variants.{Done, Eof, Overflow}
+use Rattle.codec.proofs.Theorems.{read-moves}
 use Rattle.log_item.specs.Got.{got, done}
 use Rattle.log_item.specs.Pieces.{numberGot, number}
 use Rattle.log_item.specs.declared.Form.{Form}

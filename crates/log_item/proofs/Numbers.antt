@@ -7,13 +7,13 @@ use native.Mathlib.Omega.{arith}
 use lib.ListN.{length}
 use lib.Seq.{drop-cons}
 use borrow.Author.Tests.{lt-ltb, eq-eqb}
-use Rattle.numbers.specs.declared.NumberRead.{NumberRead}
-use Rattle.numbers.specs.declared.NumberRead.the-variants.{Done, Eof, Overflow}
-use Rattle.numbers.specs.Number.{readNumber}
-use Rattle.numbers.specs.Shortest.{shortest}
-use Rattle.numbers.specs.Spelling.{SpellsNumber}
-use Rattle.numbers.proofs.Spelled.{groups-pos}
-use Rattle.numbers.proofs.Theorems.{read-iff-stands, shortest-spells, none-as-short, spells-fits}
+use Rattle.codec.specs.declared.NumberRead.{NumberRead}
+use Rattle.codec.specs.declared.NumberRead.the-variants.{Done, Eof, Overflow}
+use Rattle.codec.specs.Number.{readNumber}
+use Rattle.codec.specs.Shortest.{shortest}
+use Rattle.codec.specs.Spelling.{SpellsNumber}
+use Rattle.codec.proofs.Spelled.{groups-pos}
+use Rattle.codec.proofs.Theorems.{read-iff-stands, shortest-spells, none-as-short, spells-fits}
 use Rattle.log_item.specs.declared.Form.{Form}
 use Rattle.log_item.specs.declared.Form.the-variants.{Any, Plain}
 use Rattle.log_item.specs.Got.{got}

@@ -6,7 +6,7 @@ use mathlib.Core.Path.{_≡_, refl}
 use mathlib.Core.List.{List, _∷_, _++_, append-assoc, append-cancel-left}
 use native.Mathlib.Omega.{arith}
 use Rattle.words.proofs.Bytes.{as-long}
-use Rattle.numbers.proofs.Theorems.{one-spelling}
+use Rattle.codec.proofs.Theorems.{one-spelling}
 use Rattle.log_item.specs.declared.Form.the-variants.{Any}
 use Rattle.log_item.specs.declared.Span.{Span}
 use Rattle.log_item.specs.declared.Command.{Command}

@@ -6,11 +6,11 @@ use mathlib.Core.List.{List}
 use native.Mathlib.Omega.{arith}
 use borrow.Author.Tests.{lt-ltb, le-ltb, le-leb, lt-leb, eq-eqb, ne-eqb}
 use lib.ListN.{length, getD}
-use Rattle.numbers.specs.Number.{readNumber}
-use Rattle.numbers.specs.Shortest.{shortest}
-use Rattle.numbers.specs.declared.NumberRead.{NumberRead}
-use Rattle.numbers.specs.declared.NumberRead.the-variants.{Done}
-use Rattle.numbers.proofs.Theorems.{read-moves}
+use Rattle.codec.specs.Number.{readNumber}
+use Rattle.codec.specs.Shortest.{shortest}
+use Rattle.codec.specs.declared.NumberRead.{NumberRead}
+use Rattle.codec.specs.declared.NumberRead.the-variants.{Done}
+use Rattle.codec.proofs.Theorems.{read-moves}
 use Rattle.log_item.specs.Got.{got, refused}
 use Rattle.log_item.specs.Pieces.{numberGot, byte, number, span}
 use Rattle.log_item.specs.declared.Form.{Form}

@@ -5,8 +5,8 @@ use mathlib.Core.Path.{_≡_, sym, ap, _∙_}
 use mathlib.Core.List.{List}
 use native.Mathlib.Omega.{arith}
 use lib.ListN.{length, getD}
-use Rattle.numbers.specs.declared.NumberRead.the-variants.{Done}
-use Rattle.numbers.proofs.Reading.{first-long, first-two, turn-last, turn-more}
+use Rattle.codec.specs.declared.NumberRead.the-variants.{Done}
+use Rattle.codec.proofs.Reading.{first-long, first-two, turn-last, turn-more}
 use Rattle.log_item.specs.Got.{got}
 use Rattle.log_item.specs.Pieces.{number}
 use Rattle.log_item.specs.declared.Form.{Form}

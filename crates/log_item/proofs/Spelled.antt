@@ -9,7 +9,7 @@ use lib.ListN.{length, drop, length-take}
 use lib.Seq.{take-at}
 use lib.Dec.{ltb, leb, lit<}
 use borrow.Author.Tests.{ltb-false, leb-true}
-use Rattle.numbers.specs.Shortest.{shortest}
+use Rattle.codec.specs.Shortest.{shortest}
 use Rattle.words.specs.Write.{placed}
 use Rattle.log_item.specs.Got.{got}
 use Rattle.log_item.specs.Entries.{entriesOf, typeOf}

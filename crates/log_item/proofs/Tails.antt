@@ -10,7 +10,7 @@ use lib.ListN.{length, getD, take, drop, length-append, length-take, drop-of-len
 use lib.Seq.{drop-cons, getD-take}
 use borrow.Author.Tests.{ltb-true, ltb-false, lt-ltb, le-ltb}
 use Rattle.refusal.proofs.First.{not-first, not-second}
-use Rattle.numbers.specs.Shortest.{shortest}
+use Rattle.codec.specs.Shortest.{shortest}
 use Rattle.log_item.specs.Bytes.{tailsBytes}
 use Rattle.log_item.specs.Written.{sumOf}
 use Rattle.log_item.specs.Private.{Room, Stored, fitted, tailsSize}

@@ -4,10 +4,10 @@ use Prim.Native.Nat.{ℕ, _+_}
 use mathlib.Core.List.{List}
 use lib.Dec.{ltb, leb, eqb}
 use lib.ListN.{length, getD}
-use Rattle.numbers.specs.Number.{readNumber}
-use Rattle.numbers.specs.Shortest.{shortest}
-use Rattle.numbers.specs.declared.NumberRead.{NumberRead}
-use Rattle.numbers.specs.declared.NumberRead.the-variants.{Done, Eof, Overflow}
+use Rattle.codec.specs.Number.{readNumber}
+use Rattle.codec.specs.Shortest.{shortest}
+use Rattle.codec.specs.declared.NumberRead.{NumberRead}
+use Rattle.codec.specs.declared.NumberRead.the-variants.{Done, Eof, Overflow}
 use Rattle.log_item.specs.Got.{Got, got, refused, Reading, done, upto, here, _>>=_, _>>_, _else_}
 use Rattle.log_item.specs.declared.Form.{Form}
 use Rattle.log_item.specs.declared.Form.the-variants.{Any, Plain}

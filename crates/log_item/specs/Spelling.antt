@@ -5,8 +5,8 @@ use Prim.Native.Nat.{ℕ, suc, _+_, _≤_, _<_, _^_}
 use mathlib.Core.Path.{_≡_}
 use mathlib.Core.List.{List, [], _∷_, _++_}
 use lib.ListN.{length}
-use Rattle.numbers.specs.Spelling as numbers
-use Rattle.numbers.specs.Shortest.{shortest}
+use Rattle.codec.specs.Spelling as numbers
+use Rattle.codec.specs.Shortest.{shortest}
 use Rattle.log_item.specs.Entries.{entriesOf, tailRow, typeOf}
 use Rattle.log_item.specs.declared.Form.{Form}
 use Rattle.log_item.specs.declared.Form.the-variants.{Any, Plain}

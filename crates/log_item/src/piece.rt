@@ -6,7 +6,7 @@ use crate::Field;
 use crate::Form;
 use crate::Span;
 use crate::SpanRead;
-use numbers::NumberRead;
+use codec::NumberRead;
 use words::wide;
 
 // What Form::Plain alone refuses; who asks for Plain sees it. Document 01 has no such number, and the plain-form test answers no in its place.
@@ -35,10 +35,10 @@ pub fn read_span(buf: &[u8], at: usize, form: Form) -> SpanRead
 pub fn read_number(buf: &[u8], at: usize, form: Form) -> Field
     ensures { λ r. ⌜ fieldGot r ≡ number form (now (buf .entry)) at ⌝ }
 {
-    match numbers::decode_var_u64(buf, at) {
+    match codec::decode_var_u64(buf, at) {
         NumberRead::Done { value, next } => {
             if let Form::Plain = form {
-                if next - at != numbers::var_u64_len(value) {
+                if next - at != codec::var_u64_len(value) {
                     return Field::Refused(NOT_SHORTEST);
                 }
             }

@@ -13,12 +13,12 @@ use Rattle.pipe_log.specs.declared.Location.{Location}
 use Rattle.location_rules.specs.declared.Table.{Table}
 use Rattle.location_rules.specs.declared.Gate.{Gate}
 use Rattle.location_rules.specs.declared.Stop.{Stop}
-use Rattle.location_answers.specs.declared.Rewritten.{Rewritten}
-use Rattle.location_answers.specs.declared.Fetched.{Fetched}
+use Rattle.location_rules.specs.declared.Rewritten.{Rewritten}
+use Rattle.location_rules.specs.declared.Fetched.{Fetched}
 use Rattle.location_rules.specs.Row.{inRewrite}
 use Rattle.memtable.specs.Rows.{runOf}
 use Rattle.memtable.specs.Table.{all, wellFormed, ready}
-use Rattle.location_answers.specs.Decisions.{unchanged, answered, fetched}
+use Rattle.location_rules.specs.Decisions.{unchanged, answered, fetched}
 use Rattle.memtable.specs.Rewriting.{startPlace, startFrom, overlapLength, runLength, rewriteOf}
 use Rattle.memtable.specs.Fetching.{fetchOf}
 use Rattle.memtable.proofs.RunLaws.{run-le, run-whole}

@@ -11,19 +11,19 @@ use Rattle.pipe_log.proofs.Location as T
 use Rattle.pipe_log.proofs.Location.Laws as T′
 use Rattle.location_rules.specs.declared.Table.{Table}
 use Rattle.location_rules.specs.declared.Stop.{Stop}
-use Rattle.location_answers.specs.declared.Overlap.{Overlap}
-use Rattle.location_answers.specs.declared.Rewritten.{Rewritten}
-use Rattle.location_answers.specs.declared.Fetched.{Fetched}
+use Rattle.location_rules.specs.declared.Overlap.{Overlap}
+use Rattle.location_rules.specs.declared.Rewritten.{Rewritten}
+use Rattle.location_rules.specs.declared.Fetched.{Fetched}
 use Rattle.location_rules.proofs.Table as Tb
 use Rattle.location_rules.proofs.Table.Laws as Tb′
 use Rattle.location_rules.proofs.Stop as S
 use Rattle.location_rules.proofs.Stop.Laws as S′
-use Rattle.location_answers.proofs.Overlap as O
-use Rattle.location_answers.proofs.Overlap.Laws as O′
-use Rattle.location_answers.proofs.Rewritten as D
-use Rattle.location_answers.proofs.Rewritten.Laws as D′
-use Rattle.location_answers.proofs.Fetched as Ft
-use Rattle.location_answers.proofs.Fetched.Laws as Ft′
+use Rattle.location_rules.proofs.Overlap as O
+use Rattle.location_rules.proofs.Overlap.Laws as O′
+use Rattle.location_rules.proofs.Rewritten as D
+use Rattle.location_rules.proofs.Rewritten.Laws as D′
+use Rattle.location_rules.proofs.Fetched as Ft
+use Rattle.location_rules.proofs.Fetched.Laws as Ft′
 
 abbrev pub R : RattleType
 R = T.the-row

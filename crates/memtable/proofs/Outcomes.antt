@@ -13,9 +13,9 @@ use borrow.Author.Tests.{not-false, eqb-false, ltb-false}
 use Rattle.pipe_log.specs.declared.Location.{Location}
 use Rattle.location_rules.specs.declared.Table.{Table}
 use Rattle.location_rules.specs.declared.Gate.{Gate}
-use Rattle.location_answers.specs.declared.Rewritten.{Rewritten}
+use Rattle.location_rules.specs.declared.Rewritten.{Rewritten}
 use Rattle.memtable.specs.Table.{wellFormed, ready}
-use Rattle.location_answers.specs.Decisions.{early, countAfter, unchanged, answered}
+use Rattle.location_rules.specs.Decisions.{early, countAfter, unchanged, answered}
 use Rattle.location_rules.specs.Row.{stopOf}
 use Rattle.memtable.specs.Rewriting.{startPlace, startFrom, overlapLength, runLength, rewriteOf, rowsAfter}
 use Rattle.memtable.proofs.RunLaws.{run-take-le}

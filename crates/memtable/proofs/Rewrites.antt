@@ -14,16 +14,16 @@ use Rattle.pipe_log.specs.declared.Location.{Location}
 use Rattle.location_rules.specs.declared.Table.{Table}
 use Rattle.location_rules.specs.declared.Gate.{Gate}
 use Rattle.location_rules.specs.declared.Stop.{Stop}
-use Rattle.location_answers.specs.declared.Overlap.{Overlap}
-use Rattle.location_answers.specs.declared.Rewritten.{Rewritten}
+use Rattle.location_rules.specs.declared.Overlap.{Overlap}
+use Rattle.location_rules.specs.declared.Rewritten.{Rewritten}
 use Rattle.memtable.specs.Rows.{runOf}
 use Rattle.memtable.specs.Table.{wellFormed, ready}
-use Rattle.location_answers.specs.Decisions.{answered}
+use Rattle.location_rules.specs.Decisions.{answered}
 use Rattle.location_rules.specs.Row.{stopOf}
 use Rattle.memtable.specs.Rewriting.{startPlace, startFrom, overlapLength, runLength, rewriteOf, rowsAfter}
 use Rattle.location_rules.specs.Parts.{readyBy}
-use Rattle.location_answers.specs.Overlaps.{overlapAt, overlapOf}
-use Rattle.location_answers.proofs.Overlaps.{over-rows, over-incoming}
+use Rattle.location_rules.specs.Overlaps.{overlapAt, overlapOf}
+use Rattle.location_rules.proofs.Overlaps.{over-rows, over-incoming}
 use Rattle.memtable.proofs.RunLaws.{run-take-le}
 use Rattle.memtable.proofs.Surveys.{ready-by}
 use Rattle.memtable.proofs.Outcomes.{Outcome, kept, done, outcome-of}

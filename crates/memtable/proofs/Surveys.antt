@@ -17,8 +17,8 @@ use Rattle.location_rules.specs.declared.Stop.{Stop}
 use Rattle.location_rules.specs.Row.{inAppend, inRewrite, stopsAt}
 use Rattle.memtable.specs.Rows.{runOf}
 use Rattle.memtable.specs.Table.{all, wellFormed, ready}
-use Rattle.location_answers.specs.declared.Fetched.{Fetched}
-use Rattle.location_answers.specs.Decisions.{fetched}
+use Rattle.location_rules.specs.declared.Fetched.{Fetched}
+use Rattle.location_rules.specs.Decisions.{fetched}
 use Rattle.memtable.specs.Fetching.{fetchOf}
 use Rattle.location_rules.specs.Parts.{wellFormedBy, readyBy}
 use Rattle.memtable.proofs.Queues.{not-append, not-rewrite}

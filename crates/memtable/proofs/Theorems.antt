@@ -18,12 +18,12 @@ use Rattle.pipe_log.specs.declared.LogQueue.{LogQueue}
 use Rattle.location_rules.specs.declared.Table.{Table}
 use Rattle.location_rules.specs.declared.Gate.{Gate}
 use Rattle.location_rules.specs.declared.Stop.{Stop}
-use Rattle.location_answers.specs.declared.Rewritten.{Rewritten}
-use Rattle.location_answers.specs.declared.Fetched.{Fetched}
+use Rattle.location_rules.specs.declared.Rewritten.{Rewritten}
+use Rattle.location_rules.specs.declared.Fetched.{Fetched}
 use Rattle.location_rules.specs.Row.{inAppend, inRewrite, rowStart, stopOf}
 use Rattle.memtable.specs.Rows.{runOf, rowsIn}
 use Rattle.memtable.specs.Table.{all, wellFormed, ready}
-use Rattle.location_answers.specs.Decisions.{early, countAfter, answered, Kept, fetched}
+use Rattle.location_rules.specs.Decisions.{early, countAfter, answered, Kept, fetched}
 use Rattle.memtable.specs.Rewriting.{startPlace, startFrom, rewriteOf, rowsAfter, newTable, Rewrote}
 use Rattle.memtable.specs.Fetching.{fetchOf, fetchedAt}
 use Rattle.memtable.specs.Examples.{last, appended, incomingRow}

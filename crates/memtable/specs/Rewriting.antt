@@ -8,9 +8,9 @@ use lib.Seq.{paste}
 use Rattle.pipe_log.specs.declared.Location.{Location}
 use Rattle.location_rules.specs.declared.Table.{Table}
 use Rattle.location_rules.specs.declared.Gate.{Gate}
-use Rattle.location_answers.specs.declared.Rewritten.{Rewritten}
-use Rattle.location_answers.specs.Overlaps.{overlapRows}
-use Rattle.location_answers.specs.Decisions.{answered}
+use Rattle.location_rules.specs.declared.Rewritten.{Rewritten}
+use Rattle.location_rules.specs.Overlaps.{overlapRows}
+use Rattle.location_rules.specs.Decisions.{answered}
 use Rattle.location_rules.specs.Row.{stopOf}
 use Rattle.memtable.specs.Rows.{runOf}
 use Rattle.memtable.specs.Table.{wellFormed, ready}

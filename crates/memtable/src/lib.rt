@@ -8,9 +8,9 @@ ghost use Rattle.memtable.specs.Rows.{runOf};
 ghost use Rattle.memtable.specs.Table.{wellFormed};
 ghost use Rattle.memtable.specs.Rewriting.{Rewrote};
 ghost use Rattle.memtable.specs.Fetching.{fetchOf};
-use location_answers::Fetched;
-use location_answers::Rewritten;
+use location_rules::Fetched;
 use location_rules::Gate;
+use location_rules::Rewritten;
 use location_rules::Stop;
 use location_rules::Table;
 use pipe_log::Location;
@@ -29,10 +29,10 @@ pub fn rewrite(
     let good = is_well_formed(rows, table);
     let wrong = scan(incoming, 0, incoming.len(), Stop::Append);
     let ready = location_rules::is_ready(wrong, incoming.len(), first);
-    let over = location_answers::overlap_of(table.first, rows.len(), first, incoming.len());
+    let over = location_rules::overlap_of(table.first, rows.len(), first, incoming.len());
     let stop = location_rules::stop_of(gate);
     let end = scan(rows, over.start, over.end, stop);
-    let answer = location_answers::decide(good, ready, table, over, end, gate);
+    let answer = location_rules::decide(good, ready, table, over, end, gate);
     replace(rows, incoming, over.start, over.from, answer.replaced);
     answer
 }
@@ -44,7 +44,7 @@ pub fn fetch_entry_indexes_before(rows: &[Location], table: Table, gate: u64) ->
     let good = is_well_formed(rows, table);
     let start = words::least(table.count, rows.len());
     let end = scan(rows, start, rows.len(), Stop::Above(gate));
-    location_answers::run_from(good, table, start, end)
+    location_rules::run_from(good, table, start, end)
 }
 
 // Whether the table is well formed.

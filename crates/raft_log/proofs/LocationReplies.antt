@@ -6,7 +6,7 @@ use mathlib.Core.Bool.{Bool, true, false}
 use mathlib.Core.List.{List}
 use Rattle.location_rules.specs.declared.Table.{Table}
 use Rattle.location_rules.specs.declared.Gate.{Gate}
-use Rattle.location_answers.specs.declared.Rewritten.{Rewritten}
+use Rattle.location_rules.specs.declared.Rewritten.{Rewritten}
 use Rattle.location_rows.specs.Answers.{RowsRewritten}
 use Rattle.raft_log.specs.Answers.{Replied}
 use Rattle.raft_log.specs.Locations.{gateOf, rewriteReply}

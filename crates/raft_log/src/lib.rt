@@ -13,7 +13,7 @@ pub use writing::raft_log_write_batch;
 pub use writing::raft_log_write_body;
 ghost use mathlib.Core.Path.{_≡_};
 ghost use Rattle.crc.specs.Crc.{crcOf};
-ghost use Rattle.numbers.specs.Shortest.{shortest};
+ghost use Rattle.codec.specs.Shortest.{shortest};
 ghost use Rattle.words.specs.Write.{wroteAt, placed};
 ghost use Rattle.log_item.specs.Pieces.{anyNumber};
 ghost use Rattle.item_row.specs.Row.{itemOfRow};

@@ -13,10 +13,10 @@ use denote.Enum.Declared.{tagOf}
 use lib.Dec.{leb}
 use lib.ListN.{length, take, drop, set, replicate, length-append}
 use lib.Seq.{sets-eq}
-use Rattle.numbers.specs.Number.{readNumber}
-use Rattle.numbers.specs.declared.NumberRead.{NumberRead}
-use Rattle.numbers.specs.declared.NumberRead.the-variants.{Done}
-use Rattle.numbers.proofs.NumberRead.{the-type}
+use Rattle.codec.specs.Number.{readNumber}
+use Rattle.codec.specs.declared.NumberRead.{NumberRead}
+use Rattle.codec.specs.declared.NumberRead.the-variants.{Done}
+use Rattle.codec.proofs.NumberRead.{the-type}
 use Rattle.log_item.specs.Got.{got, refused}
 use Rattle.log_item.specs.Entries.{entriesOf, tailRow}
 use Rattle.log_item.specs.Reading.{head, tail}

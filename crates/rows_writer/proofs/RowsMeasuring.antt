@@ -11,15 +11,15 @@ use borrow.Author.Tests.{lt-ltb, le-ltb, eq-eqb, ne-eqb, eqb-true, ltb-false}
 use Rattle.refusal.proofs.First.{not-second}
 use Rattle.item_row.specs.declared.ItemRowRead.the-variants.{Refused}
 use Rattle.item_row.specs.Row.{itemRowCount, itemOfRow}
-use Rattle.numbers.specs.Shortest.{shortest}
-use Rattle.list_measure.specs.declared.Measured.{Measured}
-use Rattle.list_measure.specs.Bytes.{listBytes}
-use Rattle.list_measure.specs.Refusing.{Verdict, fine, refused, itemsVerdict, listVerdict}
-use Rattle.list_measure.specs.Answers.{measured, measuredOf, measureOf}
+use Rattle.codec.specs.Shortest.{shortest}
+use Rattle.list_writer.specs.declared.Measured.{Measured}
+use Rattle.list_writer.specs.Bytes.{listBytes}
+use Rattle.list_writer.specs.Refusing.{Verdict, fine, refused, itemsVerdict, listVerdict}
+use Rattle.list_writer.specs.Answers.{measured, measuredOf, measureOf}
 use Rattle.rows_writer.specs.Rows.{rowItems, entryLengths, thenRow, rowsVerdict, measureRows}
 use Rattle.rows_writer.proofs.RowItems.{items-few, row-ends}
-use Rattle.list_measure.proofs.Heads.{cond-fine}
-use Rattle.list_measure.proofs.Measuring.{Measuring, sized-where, told-all, measuring-end}
+use Rattle.list_writer.proofs.Heads.{cond-fine}
+use Rattle.list_writer.proofs.Measuring.{Measuring, sized-where, told-all, measuring-end}
 
 module _ (s : List ℕ) (checked : Bool) (items entries : List ℕ) where
   pub rows-many : 256 < itemRowCount items → measured 9 0 0 0 ≡ measureRows s checked items entries

@@ -10,11 +10,10 @@ use Rattle.log_item.specs.declared.LogItem.{LogItem}
 use Rattle.item_row.specs.declared.ItemRowRead.{ItemRowRead}
 use Rattle.item_row.specs.declared.ItemRowRead.the-variants.{Item, Refused}
 use Rattle.item_row.specs.Row.{itemRowCount, entryRowCount, itemOfRow}
-use Rattle.list_measure.specs.declared.Measured.{Measured}
-use Rattle.list_measure.specs.Bytes.{listBytes}
-use Rattle.list_writer.specs.Bytes.{bodyBytes}
-use Rattle.list_measure.specs.Refusing.{Verdict, fine, refused, itemsVerdict}
-use Rattle.list_measure.specs.Answers.{measuredOf}
+use Rattle.list_writer.specs.declared.Measured.{Measured}
+use Rattle.list_writer.specs.Bytes.{listBytes, bodyBytes}
+use Rattle.list_writer.specs.Refusing.{Verdict, fine, refused, itemsVerdict}
+use Rattle.list_writer.specs.Answers.{measuredOf}
 
 -- an item in front of those that follow; a row that is none ends the list
 abbrev pub itemBefore : ItemRowRead → List LogItem → List LogItem

@@ -7,8 +7,7 @@ use mathlib.Core.List.{List, [], _∷_}
 use Rattle.refusal.specs.First.{ifNone}
 use Rattle.list_writer.specs.declared.Encoded.{Encoded}
 use Rattle.list_writer.specs.Bytes.{bodyBytes}
-use Rattle.list_measure.specs.Answers.{measureOf}
-use Rattle.list_writer.specs.Answers.{encoded, encodedOf, laid}
+use Rattle.list_writer.specs.Answers.{measureOf, encoded, encodedOf, laid}
 use Rattle.log_batch.specs.declared.LogItemBatch.{LogItemBatch}
 use Rattle.log_batch.specs.Writing.{listed, tableLengths}
 use Rattle.item_row.specs.Reply.{Reply, reply}

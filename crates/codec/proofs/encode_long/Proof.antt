@@ -6,10 +6,10 @@ use mathlib.Core.Logic.{⊎-elim}
 use lib.ListN.{length}
 use native.Mathlib.Omega.{arith}
 use borrow.Author.Needs.{needs}
-use Rattle.numbers.specs.Shortest.{shortest}
+use Rattle.codec.specs.Shortest.{shortest}
 use Rattle.words.proofs.Writing.{no-room, room-for}
 use Rattle.codec.proofs.Writing.{Writes, writes-start, writes-room, writes-more, writes-last}
-use Rattle.numbers.proofs.Shortest.{shortest-pos, shortest-few}
+use Rattle.codec.proofs.Shortest.{shortest-pos, shortest-few}
 use Rattle.codec.proofs.encode_long.Statement.{statement}
 use Rattle.codec.proofs.encode_long.Tie as tie
 

@@ -5,10 +5,10 @@ use Prim.Native.Nat.{_+_, _-_, _≤_}
 use lib.ListN.{length}
 use native.Mathlib.Omega.{arith}
 use borrow.Author.Needs.{needs}
-use Rattle.numbers.specs.Shortest.{shortest}
+use Rattle.codec.specs.Shortest.{shortest}
 use Rattle.words.proofs.Writing.{no-room, room-for}
 use Rattle.codec.proofs.Writing.{Writes, writes-begin, writes-step, writes-last, tenth, writes-end}
-use Rattle.numbers.proofs.Shortest.{shortest-pos, shortest-few}
+use Rattle.codec.proofs.Shortest.{shortest-pos, shortest-few}
 use Rattle.codec.proofs.encode_var_u64_unrolled.Statement.{statement}
 use Rattle.codec.proofs.encode_var_u64_unrolled.Tie as tie
 

@@ -2,7 +2,7 @@
 -- Assumes nothing.
 use borrow.Author.Needs.{needs}
 use denote.Ref.{now}
-use Rattle.numbers.specs.Shortest.{shortest}
+use Rattle.codec.specs.Shortest.{shortest}
 use Rattle.words.proofs.Writing.{next-of, place-of}
 use Rattle.codec.proofs.put_var_u64.Statement.{statement}
 use Rattle.codec.proofs.put_var_u64.Tie as tie

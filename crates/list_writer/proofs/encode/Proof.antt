@@ -8,8 +8,8 @@ use borrow.Author.Needs.{needs}
 use denote.Ref.{now}
 use lib.ListN.{length}
 use Rattle.log_item.specs.declared.EntryIndexes.{EntryIndexes}
-use Rattle.list_measure.specs.Bytes.{itemsOf, lengthsOf}
-use Rattle.list_measure.proofs.Tables.{items-length, item-at, length-at}
+use Rattle.list_writer.specs.Bytes.{itemsOf, lengthsOf}
+use Rattle.list_writer.proofs.Tables.{items-length, item-at, length-at}
 use Rattle.list_writer.proofs.Writing.{Writing, row-low, writing-row, item-few, writing-item}
 use Rattle.list_writer.proofs.Bodies.{accepted, writing-begins, body-stored, body-length, placing-told, refused-laid, all-laid}
 use Rattle.list_writer.proofs.encode.Statement.{statement}

@@ -1,6 +1,6 @@
 -- `location_rows::rewrite` meets its contract: the surveys, the overlap, the run, the decision and the copy come to the definition.
 -- Assumes nothing.
-use Rattle.location_answers.proofs.Overlaps.{over-rows}
+use Rattle.location_rules.proofs.Overlaps.{over-rows}
 use Rattle.location_rows.proofs.Rewrites.{replace-room, rewritten}
 use native.Mathlib.Omega.{arith}
 use borrow.Author.Needs.{needs}

@@ -52,7 +52,7 @@ use Rattle.pipe_log.proofs.Location as T
 use Rattle.pipe_log.proofs.Location.Laws as T′
 use Rattle.location_rules.specs.declared.Table.{Table}
 use Rattle.location_rules.specs.declared.Gate.{Gate}
-use Rattle.location_answers.specs.declared.Rewritten.{Rewritten}
+use Rattle.location_rules.specs.declared.Rewritten.{Rewritten}
 use Rattle.location_table.specs.declared.AfterRewrite.{AfterRewrite}
 use Rattle.memtable.specs.Rewriting.{rewriteOf, rowsAfter}
 use Rattle.location_table.specs.Private.{rowsUsed}
@@ -63,8 +63,8 @@ use Rattle.location_rules.proofs.Table as Tb
 use Rattle.location_rules.proofs.Table.Laws as Tb′
 use Rattle.location_rules.proofs.Gate as G
 use Rattle.location_rules.proofs.Gate.Laws as G′
-use Rattle.location_answers.proofs.Rewritten as D
-use Rattle.location_answers.proofs.Rewritten.Laws as D′
+use Rattle.location_rules.proofs.Rewritten as D
+use Rattle.location_rules.proofs.Rewritten.Laws as D′
 use Rattle.location_table.proofs.AfterRewrite as B
 use Rattle.location_table.proofs.AfterRewrite.Laws as B′
 use Rattle.by_hand.proofs.Locals.{tyAt}

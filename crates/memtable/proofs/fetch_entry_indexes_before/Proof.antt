@@ -44,10 +44,10 @@ use denote.Enum.Laws as EL
 use Rattle.pipe_log.specs.declared.Location.{Location}
 use Rattle.location_rules.specs.declared.Table.{Table}
 use Rattle.location_rules.specs.declared.Stop.{Stop}
-use Rattle.location_answers.specs.declared.Fetched.{Fetched}
+use Rattle.location_rules.specs.declared.Fetched.{Fetched}
 use Rattle.memtable.specs.Rows.{runOf}
 use Rattle.memtable.specs.Table.{wellFormed}
-use Rattle.location_answers.specs.Decisions.{fetched}
+use Rattle.location_rules.specs.Decisions.{fetched}
 use Rattle.memtable.specs.Fetching.{fetchOf}
 use Rattle.memtable.proofs.Sizes.{cut-le}
 use Rattle.memtable.proofs.Surveys.{fetched-by}
@@ -57,8 +57,8 @@ use Rattle.location_rules.proofs.Table as Tb
 use Rattle.location_rules.proofs.Table.Laws as Tb′
 use Rattle.location_rules.proofs.Stop as S
 use Rattle.location_rules.proofs.Stop.Laws as S′
-use Rattle.location_answers.proofs.Fetched as Ft
-use Rattle.location_answers.proofs.Fetched.Laws as Ft′
+use Rattle.location_rules.proofs.Fetched as Ft
+use Rattle.location_rules.proofs.Fetched.Laws as Ft′
 use Rattle.words.proofs.least as sm
 use Rattle.words.proofs.least.Symbol as sm-def
 use Rattle.words.proofs.least.Symbol.{name as #least}
@@ -71,10 +71,10 @@ use Rattle.memtable.proofs.is_well_formed as wf
 use Rattle.memtable.proofs.is_well_formed.Symbol as wf-def
 use Rattle.memtable.proofs.is_well_formed.Symbol.{name as #formed}
 use Rattle.memtable.proofs.is_well_formed.Met as wf-thm
-use Rattle.location_answers.proofs.run_from as rf
-use Rattle.location_answers.proofs.run_from.Symbol as rf-def
-use Rattle.location_answers.proofs.run_from.Symbol.{name as #from}
-use Rattle.location_answers.proofs.run_from.Met as rf-thm
+use Rattle.location_rules.proofs.run_from as rf
+use Rattle.location_rules.proofs.run_from.Symbol as rf-def
+use Rattle.location_rules.proofs.run_from.Symbol.{name as #from}
+use Rattle.location_rules.proofs.run_from.Met as rf-thm
 use Rattle.memtable.proofs.fetch_entry_indexes_before.Key.{name as #f}
 use Rattle.memtable.proofs.fetch_entry_indexes_before as f
 use Rattle.memtable.proofs.fetch_entry_indexes_before.Statement as stated
@@ -231,4 +231,4 @@ fetch-entry-indexes-before-spec 𝓤 H 𝓜 𝓖 𝓡 =
     (cited 𝓤 H (Least 𝓤 H (𝓖 .A) (𝓜 .mem) (𝓡 .run)) 𝓜 𝓡 code.env #least sm-def.routine code.calls-words·least (sm-thm.met 𝓤 H 𝓜 𝓖 𝓡))
     (cited 𝓤 H (Scan 𝓤 H (𝓖 .A) (𝓜 .mem) (𝓡 .run)) 𝓜 𝓡 code.env #scan sc-def.routine code.calls-memtable·scan (sc-thm.met 𝓤 H 𝓜 𝓖 𝓡))
     (cited 𝓤 H (Formed 𝓤 H (𝓖 .A) (𝓜 .mem) (𝓡 .run)) 𝓜 𝓡 code.env #formed wf-def.routine code.calls-memtable·is-well-formed (wf-thm.met 𝓤 H 𝓜 𝓖 𝓡))
-    (cited 𝓤 H (From 𝓤 H (𝓖 .A) (𝓜 .mem) (𝓡 .run)) 𝓜 𝓡 code.env #from rf-def.routine code.calls-location-answers·run-from (rf-thm.met 𝓤 H 𝓜 𝓖 𝓡)))
+    (cited 𝓤 H (From 𝓤 H (𝓖 .A) (𝓜 .mem) (𝓡 .run)) 𝓜 𝓡 code.env #from rf-def.routine code.calls-location-rules·run-from (rf-thm.met 𝓤 H 𝓜 𝓖 𝓡)))

@@ -2,11 +2,11 @@
 -- Assumes nothing.
 use denote.Ref.{now}
 use Rattle.rows_writer.proofs.RowsMeasuring.{rows-many, rows-item-refused, bad-row, rows-end}
-use Rattle.list_measure.proofs.Measuring.{Measuring, measuring-start, measuring-row, measuring-row-refused, measuring-item, measuring-item-refused}
+use Rattle.list_writer.proofs.Measuring.{Measuring, measuring-start, measuring-row, measuring-row-refused, measuring-item, measuring-item-refused}
 use Rattle.rows_writer.proofs.RowItems.{items-few, row-there, row-item, entry-lengths-length, entry-length-at, words-there}
 use Rattle.item_row.specs.Row.{itemRowCount}
 use Rattle.rows_writer.specs.Rows.{rowItems, entryLengths}
-use Rattle.numbers.specs.Shortest.{shortest}
+use Rattle.codec.specs.Shortest.{shortest}
 use borrow.Author.Needs.{needs}
 use native.Mathlib.Omega.{arith}
 use mathlib.Core.Path.{_≡_, refl, sym, ap, _∙_}

@@ -1,7 +1,7 @@
 -- `log_item::piece::read_number` meets its contract.
 -- Assumes nothing.
 use mathlib.Core.Path.{refl}
-use Rattle.numbers.proofs.Theorems.{read-moves}
+use Rattle.codec.proofs.Theorems.{read-moves}
 use Rattle.log_item.proofs.Pieces.{learnt, number-any, number-plain, number-padded, number-broken}
 use native.Mathlib.Omega.{arith}
 use borrow.Author.Needs.{needs}

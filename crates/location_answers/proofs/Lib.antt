@@ -1,3 +1,0 @@
-pub mod Overlaps
-pub mod Deciding
-pub mod Determined

@@ -1,5 +1,0 @@
-pub mod Spelled
-pub mod Reading
-pub mod Shortest
-pub mod Theorems
-pub mod Determined
