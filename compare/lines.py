@@ -84,10 +84,6 @@ def do_header(name, b):
         return [line("header", name, why.number)]
 
 
-def do_uncompressed(name, offset, length):
-    return [line("uncompressed", name, int(offset, 16), int(length, 16), 0)]
-
-
 def footed(b, signature):
     return b + little(crc(b) ^ signature)
 
@@ -326,7 +322,7 @@ def do_tail(name, *words):
 
 DO = {
     "crc": do_crc, "number": do_number, "read": do_read, "big": do_big, "little": do_little, "header": do_header,
-    "uncompressed": do_uncompressed, "items": do_items, "footed": do_footed, "plain": do_plain, "go": do_go, "whole": do_whole,
+    "items": do_items, "footed": do_footed, "plain": do_plain, "go": do_go, "whole": do_whole,
     "view": do_view, "status": do_status, "encode": do_encode, "alone": do_alone, "memtable": do_memtable, "open": do_open,
     "tail": do_tail,
 }

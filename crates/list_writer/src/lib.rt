@@ -14,6 +14,11 @@ use log_item::HeadSize;
 use log_item::LogItem;
 use log_item::PartWrote;
 
+// How long a body may be, and how many bytes of it are its footer.
+pub const BODY_LEN_MAX: usize = 4294967295;
+
+const FOOTER_LEN: usize = 4;
+
 // The first refusal and its item; or number 0, the length of the body, footer included, and the sum of its entry lengths.
 // The length is 0 exactly where the body is refused.
 pub struct Measured {
@@ -75,13 +80,13 @@ pub fn measure(
 pub fn finish(size: usize, total: u32) -> Measured
     ensures { λ r. ⌜ r ≡ measuredOf (fine total) size ⌝ }
 {
-    if 4294967291 < size {
+    if BODY_LEN_MAX - FOOTER_LEN < size {
         return refuse(refusal::OUTPUT_TOO_LONG, 0);
     }
     Measured {
         number: refusal::NONE,
         item: 0,
-        length: size + 4,
+        length: size + FOOTER_LEN,
         total,
     }
 }

@@ -6,8 +6,6 @@ use mathlib.Core.List.{List}
 use Rattle.one_answer.specs.OneAnswer.{OneAnswer}
 use Rattle.log_batch.proofs.seal.check_seal.Kinds as check-seal-kinds
 use Rattle.log_batch.proofs.seal.check_seal.Reads as check-seal-reads
-use Rattle.log_batch.proofs.seal.check_block.Kinds as check-block-kinds
-use Rattle.log_batch.proofs.seal.check_block.Reads as check-block-reads
 use Rattle.log_batch.proofs.seal.sealed_len.Kinds as sealed-len-kinds
 use Rattle.log_batch.proofs.seal.sealed_len.Reads as sealed-len-reads
 use Rattle.log_batch.proofs.body.check_items.Kinds as check-items-kinds
@@ -17,8 +15,6 @@ use Rattle.log_batch.proofs.body.check.Reads as check-reads
 use Rattle.log_batch.proofs.body.plain.Kinds as plain-kinds
 use Rattle.log_batch.proofs.body.plain.Reads as plain-reads
 use denote.Ref.{now}
-use Rattle.log_batch.proofs.LogItemBatch.empty.Kinds as empty-kinds
-use Rattle.log_batch.proofs.LogItemBatch.empty.Reads as empty-reads
 use Rattle.log_batch.proofs.table.read_items.Kinds as read-items-kinds
 use Rattle.log_batch.proofs.table.read_items.Reads as read-items-reads
 use Rattle.log_batch.proofs.LogItemBatch.decode.Kinds as decode-log-item-batch-kinds
@@ -42,8 +38,6 @@ use Rattle.log_batch.specs.Header.{headerGot}
 use Rattle.log_batch.specs.Written.{BatchWritten}
 use Rattle.log_batch.specs.declared.HeaderRead.{HeaderRead}
 use Rattle.log_batch.specs.declared.HeaderRead.the-variants as read
-use Rattle.log_batch.proofs.LogBatch.new.Kinds as new-kinds
-use Rattle.log_batch.proofs.LogBatch.new.Reads as new-reads
 use Rattle.log_batch.proofs.LogBatch.decode_header.Kinds as decode-header-kinds
 use Rattle.log_batch.proofs.LogBatch.decode_header.Reads as decode-header-reads
 use Rattle.log_batch.proofs.LogBatch.decode.Kinds as decode-log-batch-kinds
@@ -58,9 +52,6 @@ use Rattle.log_batch.proofs.LogBatch.encode_unchecked.Reads as encode-u
 pub check-seal : OneAnswer 1 check-seal-kinds.ps check-seal-kinds.r check-seal-reads.Post (λ κs x y s t. x ≡ y)
 check-seal κs a x y s t p q = p ∙ sym q
 
-pub check-block : OneAnswer 1 check-block-kinds.ps check-block-kinds.r check-block-reads.Post (λ κs x y s t. x ≡ y)
-check-block κs a x y s t p q = p ∙ sym q
-
 pub sealed-len : OneAnswer 0 sealed-len-kinds.ps sealed-len-kinds.r sealed-len-reads.Post (λ κs x y s t. x ≡ y)
 sealed-len κs a x y s t p q = p ∙ sym q
 
@@ -72,9 +63,6 @@ check κs a x y s t p q = p ∙ sym q
 
 pub plain : OneAnswer 1 plain-kinds.ps plain-kinds.r plain-reads.Post (λ κs x y s t. x ≡ y)
 plain κs a x y s t p q = p ∙ sym q
-
-pub empty : OneAnswer 0 empty-kinds.ps empty-kinds.r empty-reads.Post (λ κs x y s t. x ≡ y)
-empty κs a x y s t p q = p ∙ sym q
 
 pub read-items : OneAnswer 1 read-items-kinds.ps read-items-kinds.r read-items-reads.Post (λ κs x y s t. x ≡ y)
 read-items κs a x y s t p q = p ∙ sym q
@@ -106,9 +94,6 @@ header-same (read.Done x) (read.Done y) e = cc
 header-same (read.Done x) (read.Refused r) e = cc
 header-same (read.Refused r) (read.Done x) e = cc
 header-same (read.Refused r) (read.Refused x) e = cc
-
-pub new : OneAnswer 0 new-kinds.ps new-kinds.r new-reads.Post (λ κs x y s t. x ≡ y)
-new κs a x y s t p q = p ∙ sym q
 
 pub decode-header : OneAnswer 1 decode-header-kinds.ps decode-header-kinds.r decode-header-reads.Post (λ κs x y s t. x ≡ y)
 decode-header κs a x y s t p q = header-same x y (p ∙ sym q)

@@ -1,17 +1,13 @@
 -- What telling the status of an item comes to: a law for each way out of the code.
 -- Assumes nothing.
-use Prim.Native.Nat.{ℕ, zero, suc, _+_, _<_}
+use Prim.Native.Nat.{ℕ, zero, suc}
 use mathlib.Core.Path.{_≡_, refl, sym, _∙_}
-use mathlib.Core.Bool.{Bool, true, false, _&&_}
+use mathlib.Core.Bool.{Bool, true, false}
 use mathlib.Core.List.{List}
-use native.Mathlib.Omega.{arith}
 use borrow.Author.Tests.{eq-eqb, ne-eqb}
 use lib.Dec.{eqb}
-use lib.ListN.{getD, drop, length-take, length-drop}
-use lib.Seq.{getD-drop, getD-take}
-use Rattle.log_item.proofs.Lengths.{inside-bound}
-use Rattle.log_item.proofs.Starts.{begins-more}
-use Rattle.log_item.specs.Prefix.{prefix, begins, bytesOf, inside}
+use lib.ListN.{getD}
+use Rattle.log_item.specs.Prefix.{begins, bytesOf, inside}
 use Rattle.log_item.specs.declared.Span.{Span}
 use Rattle.log_item.specs.declared.Op.the-variants.{Put, Del}
 use Rattle.log_item.specs.declared.Command.{Command}
@@ -23,7 +19,7 @@ use Rattle.log_item.proofs.Refusals.{key-outside}
 use Rattle.log_batch.specs.declared.AtomicGroupStatus.the-variants.{Begin, Middle, End}
 use Rattle.log_batch.specs.declared.StatusRead.{StatusRead}
 use Rattle.log_batch.specs.declared.StatusRead.the-variants.{Mark, NoMark, Refused}
-use Rattle.log_batch.specs.Status.{isMark, statusByte, markOf, statusOf}
+use Rattle.log_batch.specs.Status.{markKey, isMark, statusByte, markOf, statusOf}
 
 -- ---- the key of a mark
 
@@ -31,20 +27,8 @@ module _ (s : List ℕ) (k : Span) where
   pub mark-length : (k .len ≡ 3 → ⊥) → false ≡ isMark s k
   mark-length h = rw (ne-eqb _ _ h)
 
-  module _ (i : inside s k ≡ true) (n : k .len ≡ 3) where
-    third : isMark s k ≡ (begins (bytesOf s k) prefix && eqb (getD s (k .at + 2) 0) 1)
-    third =
-        let l = inside-bound s k i in
-        let m = length-take (k .len) (drop (k .at) s) in
-        let o = length-drop (k .at) s in
-        let w : 2 < k .len = omega arith in
-        rw (eq-eqb _ _ n) (begins-more (bytesOf s k) prefix 1 (omega arith) ∙ rw (getD-take, getD-drop))
-
-    pub mark-other : {a : Bool} → a ≡ begins (bytesOf s k) prefix → a ≡ false → false ≡ isMark s k
-    mark-other e h = sym (third ∙ rw (sym e ∙ h))
-
-    pub mark-byte : {a : Bool} → a ≡ begins (bytesOf s k) prefix → a ≡ true → eqb (getD s (k .at + 2) 0) 1 ≡ isMark s k
-    mark-byte e h = sym (third ∙ rw (sym e ∙ h))
+  pub mark-key : {a : Bool} → k .len ≡ 3 → a ≡ begins (bytesOf s k) markKey → a ≡ isMark s k
+  mark-key n e = rw (eq-eqb _ _ n) e
 
 -- ---- the status byte
 

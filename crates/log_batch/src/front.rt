@@ -10,12 +10,12 @@ use list_writer::Encoded;
 use list_writer::Measured;
 
 // Begins a whole batch whose body has this measure: decides every refusal, and where there is none writes header and block at the start
-// of out; the body is to follow, and ends at the length that is answered. Else out is as it was. No body has more than 4294967295
-// bytes: such a measure is a 22.
+// of out; the body is to follow, and ends at the length that is answered. Else out is as it was. No body has more than
+// list_writer::BODY_LEN_MAX bytes: such a measure is a 22.
 pub fn begin(m: Measured, items: usize, content: &[u8], out: &mut [u8]) -> Encoded
     ensures { λ r. ⌜ FrontWritten m items (now (content .entry)) (now (out .entry)) r (now (out .exit)) ⌝ }
 {
-    if 4294967295 < m.length {
+    if list_writer::BODY_LEN_MAX < m.length {
         return Encoded::new(refusal::OUTPUT_TOO_LONG, 0, 0);
     }
     let r = plan(m, items, content, out.len());

@@ -12,7 +12,6 @@ pub use body::check_items;
 pub use body::plain;
 pub use front::begin;
 pub use list_writer::Encoded;
-pub use seal::check_block;
 pub use seal::check_seal;
 pub use seal::sealed_len;
 pub use table::read_items;
@@ -28,6 +27,7 @@ use log_item::EntryIndex;
 use log_item::LogItem;
 use log_item::Span;
 use refusal::Refusal;
+use seal::check_block;
 
 // What a body holds: the first item_count rows of items and entry_count rows of entries; rows past them are blank. Keys and contents
 // are spans of the body. A refused reading has no rows, and its refusal's number is not 0.
@@ -104,14 +104,14 @@ impl LogBatch {
 
     pub const CHECKSUM_LEN: usize = 4;
 
-    // The frame of a batch that is not compressed.
-    pub fn new(offset: usize, len: usize) -> LogBatch
-        ensures { λ r. ⌜ r ≡ record { offset = offset; len = len; compression = 0 } ⌝ }
+    // The frame of these numbers.
+    fn new(offset: usize, len: usize, compression: u8) -> LogBatch
+        ensures { λ r. ⌜ r ≡ record { offset = offset; len = len; compression = compression } ⌝ }
     {
         LogBatch {
             offset,
             len,
-            compression: 0,
+            compression,
         }
     }
 
@@ -265,10 +265,6 @@ fn read_frame(first: u64, second: u64) -> HeaderRead
         return HeaderRead::Refused(refusal::OFFSET_BELOW_HEADER);
     }
     HeaderRead::Done {
-        batch: LogBatch {
-            offset,
-            len,
-            compression,
-        },
+        batch: LogBatch::new(offset, len, compression),
     }
 }

@@ -26,7 +26,7 @@ pub fn check_seal(bytes: &[u8], signature: u32) -> u32
 }
 
 // Whether a block is empty, or its last four bytes are the checksum of those before them: 0, or 5 or 6.
-pub fn check_block(block: &[u8]) -> u32
+pub(crate) fn check_block(block: &[u8]) -> u32
     ensures { λ r. ⌜ r ≡ blockCheck (now (block .entry)) ⌝ }
 {
     if block.len() == 0 {

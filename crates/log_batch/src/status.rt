@@ -11,6 +11,9 @@ use log_item::Op;
 use log_item::Span;
 use refusal::Refusal;
 
+// The key of a mark: the internal prefix, log_item::INTERNAL_KEY_PREFIX, and the byte 01.
+const MARK_KEY: [u8; 3] = *b"__\x01";
+
 impl AtomicGroupStatus {
     // What an item marks. `store` has the bytes that the item's spans lie in.
     pub fn parse(item: LogItem, store: &[u8]) -> StatusRead
@@ -40,9 +43,9 @@ impl AtomicGroupStatus {
     }
 }
 
-// What a put marks, its key and its content lying in the store.
+// What a put marks, its content lying in the store.
 fn mark_of(group: u64, key: Span, value: Span, store: &[u8]) -> StatusRead
-    requires { ⌜ (inside (now store) key ≡ true) × (inside (now store) value ≡ true) ⌝ }
+    requires { ⌜ inside (now store) value ≡ true ⌝ }
     ensures { λ r. ⌜ r ≡ markOf group key (Op.Put value) (now (store .entry)) ⌝ }
 {
     if !is_mark(store, key) {
@@ -92,17 +95,12 @@ fn outside() -> StatusRead
     })
 }
 
-// Whether a key, which lies in the store, is the internal prefix and the byte 01.
+// Whether a key is that of a mark.
 fn is_mark(store: &[u8], key: Span) -> bool
-    requires { ⌜ inside (now store) key ≡ true ⌝ }
     ensures { λ r. ⌜ r ≡ isMark (now (store .entry)) key ⌝ }
 {
-    let at = key.at;
-    if key.len != 3 {
+    if key.len != MARK_KEY.len() {
         return false;
     }
-    if !log_item::is_internal_key(store, key) {
-        return false;
-    }
-    store[at + 2] == 1
+    log_item::starts_with(store, key, &MARK_KEY)
 }

@@ -54,7 +54,7 @@ pub fn read_items(buf: &[u8]) -> LogItemBatch
 
 impl LogItemBatch {
     // A table with no rows, refused with this number at this item (0 and 0: not refused).
-    pub fn empty(number: u32, item: usize) -> LogItemBatch
+    pub(crate) fn empty(number: u32, item: usize) -> LogItemBatch
         ensures { λ r. ⌜ r ≡ emptyTable number item ⌝ }
     {
         let item_row = blank_item();

@@ -16,8 +16,8 @@ use Rattle.log_item.proofs.piece.read_span.Kinds as read-span-kinds
 use Rattle.log_item.proofs.piece.read_span.Reads as read-span-reads
 use Rattle.log_item.proofs.prefix.lies_in.Kinds as lies-in-kinds
 use Rattle.log_item.proofs.prefix.lies_in.Reads as lies-in-reads
-use Rattle.log_item.proofs.prefix.is_internal_key.Kinds as is-internal-key-kinds
-use Rattle.log_item.proofs.prefix.is_internal_key.Reads as is-internal-key-reads
+use Rattle.log_item.proofs.prefix.starts_with.Kinds as starts-with-kinds
+use Rattle.log_item.proofs.prefix.starts_with.Reads as starts-with-reads
 use denote.Ref.{now}
 use Rattle.log_item.specs.declared.HeadRead.{HeadRead}
 use Rattle.log_item.specs.declared.HeadRead.the-variants as head
@@ -75,8 +75,8 @@ read-span κs a x y s t p q = span-same x y (p ∙ sym q)
 pub lies-in : OneAnswer 1 lies-in-kinds.ps lies-in-kinds.r lies-in-reads.Post (λ κs x y s t. x ≡ y)
 lies-in κs a x y s t p q = p ∙ sym q
 
-pub is-internal-key : OneAnswer 1 is-internal-key-kinds.ps is-internal-key-kinds.r is-internal-key-reads.Post (λ κs x y s t. x ≡ y)
-is-internal-key κs a x y s t p q = p ∙ sym q
+pub starts-with : OneAnswer 2 starts-with-kinds.ps starts-with-kinds.r starts-with-reads.Post (λ κs x y s t. x ≡ y)
+starts-with κs a x y s t p q = p ∙ sym q
 
 -- An answer says in the words of the definitions all that it says.
 head-same : (a b : HeadRead) → headGot a ≡ headGot b → a ≡ b

@@ -2,8 +2,8 @@
 -- Assumes nothing.
 use Prim.Native.Nat.{ℕ, _+_, _-_, _≤_, _<_, min}
 use mathlib.Core.Path.{_≡_, refl, sym, ap, _∙_}
-use mathlib.Core.Bool.{_&&_, true, false, and-false, and-true, and-assoc}
-use mathlib.Core.List.{List, [], _∷_, _++_}
+use mathlib.Core.Bool.{true, false, and-false}
+use mathlib.Core.List.{List, [], _∷_}
 use native.Mathlib.Omega.{arith}
 use native.Mathlib.Numerals.{add-one}
 use borrow.Author.Tests.{eq-eqb, ne-eqb}
@@ -18,14 +18,6 @@ unfolding begins
 short bs [] h = absurd (omega arith)
 short [] (p ∷ ps) h = refl
 short (b ∷ bs) (p ∷ ps) h = rw (short bs ps (omega arith)) (and-false (eqb b p))
-
--- Bytes begin with a list and one byte more where they begin with the list and the byte stands after it.
-pub begins-more : (bs ps : List ℕ) (x : ℕ) → length ps < length bs → begins bs (ps ++ (x ∷ [])) ≡ (begins bs ps && eqb (getD bs (length ps) 0) x)
-unfolding begins
-begins-more [] ps x h = absurd (omega arith)
-begins-more (b ∷ []) [] x h = and-true (eqb b x)
-begins-more (b ∷ c ∷ bs) [] x h = and-true (eqb b x)
-begins-more (b ∷ bs) (p ∷ ps) x h = rw (begins-more bs ps x (omega arith)) (sym (and-assoc (eqb b p) (begins bs ps) (eqb (getD bs (length ps) 0) x)))
 
 all : (bs : List ℕ) → begins bs [] ≡ true
 unfolding begins

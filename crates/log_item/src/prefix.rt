@@ -1,8 +1,10 @@
-// The bytes of a span: whether they lie in the store, and whether they begin with the internal prefix.
+// The bytes of a span: whether they lie in the store, and what they begin with. The internal prefix of a key, from lib.rs.
 ghost use mathlib.Core.Path.{_≡_};
 ghost use Prim.Native.Nat.{_-_, min};
 ghost use Rattle.log_item.specs.Prefix.{prefix, begins, bytesOf, inside};
 use crate::Span;
+
+pub const INTERNAL_KEY_PREFIX: [u8; 2] = *b"__";
 
 // Whether all bytes of a span are in the store.
 pub fn lies_in(store: &[u8], span: Span) -> bool
@@ -17,14 +19,14 @@ pub fn lies_in(store: &[u8], span: Span) -> bool
 }
 
 // Whether the key begins with the internal prefix.
-pub fn is_internal_key(store: &[u8], key: Span) -> bool
+pub(crate) fn is_internal_key(store: &[u8], key: Span) -> bool
     ensures { λ r. ⌜ r ≡ begins (bytesOf (now (store .entry)) key) prefix ⌝ }
 {
-    starts_with(store, key, b"__")
+    starts_with(store, key, &INTERNAL_KEY_PREFIX)
 }
 
 // Whether the bytes of a span begin with `start`. Bytes of the span that lie outside the store are not there.
-fn starts_with(store: &[u8], span: Span, start: &[u8]) -> bool
+pub fn starts_with(store: &[u8], span: Span, start: &[u8]) -> bool
     ensures { λ r. ⌜ r ≡ begins (bytesOf (now (store .entry)) span) (now (start .entry)) ⌝ }
 {
     let at = span.at;

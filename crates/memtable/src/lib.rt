@@ -1,5 +1,5 @@
 // The locations of a Raft group's entries: the rewrite of rows, and the fetch of those before a gate. From memtable.rs, rewrite and
-// fetch_entry_indexes_before. What looks at no list of rows is in location_rules and location_answers.
+// fetch_entry_indexes_before. What looks at no list of rows is in location_rules.
 ghost use mathlib.Core.Path.{_≡_};
 ghost use Prim.Native.Nat.{_+_, _-_, _≤_};
 ghost use lib.ListN.{length, take, drop};

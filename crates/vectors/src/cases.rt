@@ -7,7 +7,6 @@
 //     big N                                                       a word of 64 bits, big-endian
 //     little N                                                    a word of 32 bits, little-endian
 //     header NAME BYTES
-//     uncompressed NAME OFFSET LENGTH                             the frame of a batch, made of its numbers
 //     items NAME SIGNATURE BYTES                                  a body, whose footer is put behind it here
 //     footed NAME SIGNATURE BYTES                                 a body with its footer
 //     plain NAME BYTES                                            the same, unsigned, asked for its form
@@ -66,7 +65,6 @@ fn case(line: &[u8]) {
         b'b' => number::big(line),
         b'l' => number::little(line),
         b'h' => headers::case(line),
-        b'u' => headers::made(line),
         b'i' | b'f' | b'w' => bodies::case(line),
         b'p' => bodies::plain(line),
         b'g' => bodies::go_over(line),

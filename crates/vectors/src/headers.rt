@@ -1,4 +1,4 @@
-// Headers: the frame that one states, or its refusal; and a frame made of its numbers.
+// Headers: the frame that one states, or its refusal.
 use crate::text;
 use log_batch::HeaderRead;
 use log_batch::LogBatch;
@@ -8,15 +8,6 @@ pub(crate) fn case(line: &[u8]) {
     let n = line::bytes(line, 2, &mut buf);
     text::head(line);
     answer(LogBatch::decode_header(line::front(&buf, n)));
-    text::end();
-}
-
-pub(crate) fn made(line: &[u8]) {
-    text::head(line);
-    frame(LogBatch::new(
-        line::number(line, 2) as usize,
-        line::number(line, 3) as usize,
-    ));
     text::end();
 }
 

@@ -42,7 +42,7 @@ returns-2 : tie.Need-returns-2
 returns-2 c = put-outside (c .before .before .before .before .before .before .before .before .before .before .before .before .before .args .item) (now (c .before .before .before .before .before .before .before .before .before .before .before .before .before .args .store)) (c .before .before .before .before .before .before .before .before .before .before .content .given .1) (c .before .before .before .before .before .before .before .lies-in .ensures) (not-false _ (c .before .before .before .before .before .before .if1 .left)) (c .before .before .before .before .op .given .1) (c .before .before .lies-in2 .ensures) (not-true _ (c .before .if2 .taken)) (c .outside2 .ensures)
 
 mark-of-requires : tie.Need-mark-of-requires
-mark-of-requires c κs = (sym (c .before .before .before .before .before .before .lies-in .ensures) ∙ not-false _ (c .before .before .before .before .before .if1 .left), sym (c .before .lies-in2 .ensures) ∙ not-false _ (c .if2 .left))
+mark-of-requires c κs = sym (c .before .lies-in2 .ensures) ∙ not-false _ (c .if2 .left)
 
 returns-3 : tie.Need-returns-3
 returns-3 c = status-entries (c .before .before .before .args .item) (now (c .before .before .before .args .store)) (c .enum-told .given .1)

@@ -1,10 +1,7 @@
 -- `log_batch::status::is_mark` meets its contract.
 -- Assumes nothing.
-use borrow.Author.Tests.{not-true, not-false}
 use denote.Ref.{now}
-use Rattle.log_item.proofs.Lengths.{inside-bound}
-use Rattle.log_batch.proofs.Marks.{mark-length, mark-other, mark-byte}
-use native.Mathlib.Omega.{arith}
+use Rattle.log_batch.proofs.Marks.{mark-length, mark-key}
 use borrow.Author.Needs.{needs}
 use Rattle.log_batch.proofs.status.is_mark.Statement.{statement}
 use Rattle.log_batch.proofs.status.is_mark.Tie as tie
@@ -12,28 +9,16 @@ use Rattle.log_batch.proofs.status.is_mark.Tie as tie
 returns : tie.Need-returns
 returns c = let f = c .before .before .before in mark-length (now (f .args .store)) (f .args .key) (c .if1 .taken)
 
-is-internal-key-requires : tie.Need-is-internal-key-requires
-is-internal-key-requires c κs = search needs
+slice-aggregate-starts-with : tie.Need-slice-aggregate-starts-with
+slice-aggregate-starts-with c = search needs
+
+starts-with-requires : tie.Need-starts-with-requires
+starts-with-requires c κs = search needs
 
 returns-2 : tie.Need-returns-2
-returns-2 c = let f = c .before .before .before .before .before in mark-other (now (f .args .store)) (f .args .key) (f .pre) (c .before .before .if1 .left) (c .before .is-internal-key .ensures) (not-true _ (c .if2 .taken))
-
-add-result : tie.Need-add-result
-add-result c = let f = c .before .before .before .before .before in omega (arith, c .before .before .if1 .left, inside-bound (now (f .args .store)) (f .args .key) (f .pre))
-
-shared-slice-read-result : tie.Need-shared-slice-read-result
-shared-slice-read-result c = let f = c .before .before .before .before .before .before in omega (arith, c .before .before .before .if1 .left, inside-bound (now (f .args .store)) (f .args .key) (f .pre))
-
-returns-3 : tie.Need-returns-3
-returns-3 c = let f = c .before .before .before .before .before .before in mark-byte (now (f .args .store)) (f .args .key) (f .pre) (c .before .before .before .if1 .left) (c .before .before .is-internal-key .ensures) (not-false _ (c .before .if2 .left))
+returns-2 c =
+    let f = c .before .before .before .before .before in
+    mark-key (now (f .args .store)) (f .args .key) (c .before .before .if1 .left) (c .starts-with .ensures)
 
 pub is-mark-spec : {M : Type 1} → statement M
-is-mark-spec =
-    tie.close
-    (tie.spec
-    returns
-    is-internal-key-requires
-    returns-2
-    add-result
-    shared-slice-read-result
-    returns-3)
+is-mark-spec = tie.close (tie.spec returns slice-aggregate-starts-with starts-with-requires returns-2)

@@ -19,7 +19,7 @@ returns-2 : tie.Need-returns-2
 returns-2 c = put-long (c .before .before .before .before .before .args .group) (c .before .before .before .before .before .args .key) (c .before .before .before .before .before .args .value) (now (c .before .before .before .before .before .args .store)) (c .before .before .before .is-mark .ensures) (not-false _ (c .before .before .if1 .left)) (c .if2 .taken)
 
 shared-slice-read-status-byte : tie.Need-shared-slice-read-status-byte
-shared-slice-read-status-byte c = let f = c .before .before .before .before .before .before in omega (arith, inside-bound (now (f .args .store)) (f .args .value) (f .pre .1))
+shared-slice-read-status-byte c = let f = c .before .before .before .before .before .before in omega (arith, inside-bound (now (f .args .store)) (f .args .value) (f .pre))
 
 status-byte-requires : tie.Need-status-byte-requires
 status-byte-requires c κs = search needs
