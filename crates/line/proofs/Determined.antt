@@ -1,7 +1,8 @@
--- No second answer: two results, and two later contents of a lent buffer, that meet one contract are equal. A part of a text is its bytes.
+-- No second answer: two results, and two later contents of a lent buffer, that meet one contract are equal. A part of a text is its place and its bytes.
 -- Assumes nothing.
 use mathlib.Core.Path.{_≡_, sym, _∙_}
 use denote.Ref.{now}
+use Rattle.words.specs.Part.{seen}
 use Rattle.one_answer.specs.OneAnswer.{OneAnswer}
 use Rattle.line.proofs.find.Kinds as find-kinds
 use Rattle.line.proofs.find.Reads as find-reads
@@ -29,16 +30,16 @@ use Rattle.line.proofs.bytes.Reads as bytes-reads
 pub find : OneAnswer 1 find-kinds.ps find-kinds.r find-reads.Post (λ κs x y s t. x ≡ y)
 find κs a x y s t p q = p ∙ sym q
 
-pub part : OneAnswer 1 part-kinds.ps part-kinds.r part-reads.Post (λ κs x y s t. now x ≡ now y)
+pub part : OneAnswer 1 part-kinds.ps part-kinds.r part-reads.Post (λ κs x y s t. seen x ≡ seen y)
 part κs a x y s t p q = p ∙ sym q
 
-pub front : OneAnswer 1 front-kinds.ps front-kinds.r front-reads.Post (λ κs x y s t. now x ≡ now y)
+pub front : OneAnswer 1 front-kinds.ps front-kinds.r front-reads.Post (λ κs x y s t. seen x ≡ seen y)
 front κs a x y s t p q = p ∙ sym q
 
-pub words-from : OneAnswer 1 words-from-kinds.ps words-from-kinds.r words-from-reads.Post (λ κs x y s t. now x ≡ now y)
+pub words-from : OneAnswer 1 words-from-kinds.ps words-from-kinds.r words-from-reads.Post (λ κs x y s t. seen x ≡ seen y)
 words-from κs a x y s t p q = p ∙ sym q
 
-pub word : OneAnswer 1 word-kinds.ps word-kinds.r word-reads.Post (λ κs x y s t. now x ≡ now y)
+pub word : OneAnswer 1 word-kinds.ps word-kinds.r word-reads.Post (λ κs x y s t. seen x ≡ seen y)
 word κs a x y s t p q = p ∙ sym q
 
 pub first-letter : OneAnswer 1 first-letter-kinds.ps first-letter-kinds.r first-letter-reads.Post (λ κs x y s t. x ≡ y)

@@ -1,16 +1,18 @@
 -- Places of a text: where a byte stands first, the part between two places, and what stands from a word on; the laws that the code goes by.
 -- Assumes nothing.
 use Prim.Native.Nat.{ℕ, zero, suc, _+_, _-_, _≤_, _<_, min, zero-le}
-use mathlib.Core.Path.{_≡_, refl, sym, _∙_}
+use mathlib.Core.Path.{_≡_, refl, sym, ap, _∙_}
 use mathlib.Core.Bool.{Bool, true, false}
 use mathlib.Core.List.{List, [], _∷_}
 use native.Mathlib.Omega.{arith}
 use lib.Dec.{leb}
 use lib.ListN.{length, getD, take, drop, length-drop, drop-of-length-le}
 use lib.Seq.{take-all, take-nil, take-length, drop-drop}
-use borrow.Author.Tests.{leb-true, leb-false}
+use borrow.Author.Tests.{leb-true, leb-false, le-leb, lt-leb}
+use denote.Ref.{RefT, ptr, now}
+use Rattle.words.specs.Part.{Part, seen, partAt, frontOf}
 use Rattle.bytes.specs.Bytes.{indexOf, slice}
-use Rattle.line.specs.Word.{space, wordsFrom, wordOf}
+use Rattle.line.specs.Word.{space, wordsFrom, wordOf, between, ending, wordsPart, wordPart}
 
 -- ---- the first of a byte
 
@@ -25,28 +27,32 @@ module _ (s : List ℕ) (at b : ℕ) where
 
 -- ---- a part
 
-module _ (s : List ℕ) (start end : ℕ) where
-  pub part-none : (to : ℕ) → to ≡ min end (length s) → to < start → [] ≡ take (end - start) (drop start s)
-  part-none to e h = go (leb end (length s)) refl
+module _ (text : RefT (List ℕ)) (start end to : ℕ) (e : to ≡ min end (length (now text))) where
+  -- up to the end or up to the text's end is the same
+  same-bytes : start ≤ to → take (to - start) (drop start (now text)) ≡ take (end - start) (drop start (now text))
+  same-bytes h = go (leb end (length (now text))) refl
     where
-      go : (t : Bool) → leb end (length s) ≡ t → [] ≡ take (end - start) (drop start s)
-      go true l = let none : end - start ≡ 0 = omega (arith, leb-true end (length s) l) in rw none
+      go : (t : Bool) → leb end (length (now text)) ≡ t → take (to - start) (drop start (now text)) ≡ take (end - start) (drop start (now text))
+      go true l = let same : to ≡ end = omega (arith, leb-true end (length (now text)) l) in rw same
       go false l =
-          let none : length s ≤ start = omega (arith, leb-false end (length s) l) in
-          rw (drop-of-length-le s none) (sym (take-nil (end - start)))
+          let short : length (now text) < end = leb-false end (length (now text)) l in
+          let long : length (drop start (now text)) ≡ length (now text) - start = length-drop start (now text) in
+          take-all (to - start) (drop start (now text)) (omega arith) ∙ sym (take-all (end - start) (drop start (now text)) (omega arith))
 
-  pub part-some : (to : ℕ) → to ≡ min end (length s) → start ≤ to → take (to - start) (drop start s) ≡ take (end - start) (drop start s)
-  part-some to e h = go (leb end (length s)) refl
-    where
-      go : (t : Bool) → leb end (length s) ≡ t → take (to - start) (drop start s) ≡ take (end - start) (drop start s)
-      go true l = let same : to ≡ end = omega (arith, leb-true end (length s) l) in rw same
-      go false l =
-          let short : length s < end = leb-false end (length s) l in
-          let long : length (drop start s) ≡ length s - start = length-drop start s in
-          take-all (to - start) (drop start s) (omega arith) ∙ sym (take-all (end - start) (drop start s) (omega arith))
+  pub part-none : to < start → frontOf text 0 ≡ between text start end
+  unfolding between
+  part-none h = let less : min end (length (now text)) < start = omega arith in rw (lt-leb _ _ less)
 
-pub front-part : (s : List ℕ) (n : ℕ) {r : List ℕ} → r ≡ take (n - 0) (drop 0 s) → r ≡ take n s
-front-part s n e = let all : n - 0 ≡ n = omega arith in rw all at e
+  pub part-some : start ≤ to → partAt text start (to - start) ≡ between text start end
+  unfolding between
+  part-some h = let fits : start ≤ min end (length (now text)) = omega arith in rw (le-leb _ _ fits, same-bytes h)
+
+pub front-part : (text : RefT (List ℕ)) (n : ℕ) {r : Part} → r ≡ between text 0 n → r ≡ frontOf text n
+unfolding between
+front-part text n e =
+    let all : n - 0 ≡ n = omega arith in
+    let start : 0 + ptr text .1 ≡ ptr text .1 = omega arith in
+    rw (le-leb 0 (min n (length (now text))) zero-le, all, start) at e
 
 -- ---- words
 
@@ -63,10 +69,16 @@ pub record From (line : List ℕ) (k at left : ℕ) : Type 0 where
 pub from-start : (line : List ℕ) (k : ℕ) → From line k 0 k
 from-start line k = record { within = zero-le; same = refl }
 
-pub from-end : {line : List ℕ} {k at left : ℕ} → From line k at left → left ≡ 0 → take (length line - at) (drop at line) ≡ wordsFrom line k
+-- what stands from a place on, where it is what stands from word k on
+suffix : (line : RefT (List ℕ)) (k at : ℕ) → at ≤ length (now line) → drop at (now line) ≡ wordsFrom (now line) k → partAt line at (length (now line) - at) ≡ wordsPart line k
+suffix line k at within same =
+    let long : length (wordsFrom (now line) k) ≡ length (now line) - at = rw (← same) (length-drop at (now line)) in
+    let place : length (now line) - length (wordsFrom (now line) k) ≡ at = omega arith in
+    rw (place, ← same, take-all (length (now line) - at) (drop at (now line)) (omega (arith, length-drop at (now line))))
+
+pub from-end : (line : RefT (List ℕ)) {k at left : ℕ} → From (now line) k at left → left ≡ 0 → partAt line at (length (now line) - at) ≡ wordsPart line k
 unfolding wordsFrom
-from-end {line} {k} {at} {left} w e =
-    take-all (length line - at) (drop at line) (omega (arith, length-drop at line)) ∙ rw e at (w .same)
+from-end line {k} {at} {left} w e = suffix line k at (w .within) (rw e at (w .same))
 
 module _ {line : List ℕ} {k at left next : ℕ} (w : From line k at left) (more : 0 < left) (found : next ≡ at + indexOf space (drop at line)) where
   -- the words behind the next space
@@ -87,9 +99,16 @@ module _ {line : List ℕ} {k at left next : ℕ} (w : From line k at left) (mor
       let past : length line ≤ next + 1 = omega arith in
       sym (none-from (left - 1)) ∙ rw (drop-of-length-le line past) at behind
 
-pub word-front : (line : List ℕ) (k : ℕ) (words : List ℕ) (n : ℕ) → words ≡ wordsFrom line k → n ≡ 0 + indexOf space (drop 0 words) → take n words ≡ wordOf line k
+pub nothing-left : (line : RefT (List ℕ)) (k : ℕ) → [] ≡ wordsFrom (now line) k → partAt line (length (now line)) (length (now line) - length (now line)) ≡ wordsPart line k
+nothing-left line k e = let all : length (now line) ≤ length (now line) = omega arith in suffix line k (length (now line)) all (drop-of-length-le (now line) all ∙ e)
+
+pub word-front : (line words : RefT (List ℕ)) (k n : ℕ) → seen words ≡ wordsPart line k → n ≡ 0 + indexOf space (drop 0 (now words)) → frontOf words n ≡ wordPart line k
 unfolding wordOf
-word-front line k words n e f = let g : n ≡ indexOf space words = omega arith in rw (g, e)
+word-front line words k n e f =
+    let g : n ≡ indexOf space (now words) = omega arith in
+    let b : now words ≡ wordsFrom (now line) k = ap (λ p. p .bytes) e in
+    let q : ptr words ≡ ending line (wordsFrom (now line) k) = ap (λ p. p .place) e in
+    rw (g, b, q)
 
 -- ---- the first letter
 

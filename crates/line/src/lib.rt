@@ -6,8 +6,9 @@ ghost use mathlib.Core.Path.{_≡_};
 ghost use mathlib.Core.List.{_++_};
 ghost use Prim.Native.Nat.{_+_, _-_, _*_, _%_, _^_, min};
 ghost use lib.ListN.{length, getD, take, drop};
+ghost use Rattle.words.specs.Part.{seen, frontOf};
 ghost use Rattle.bytes.specs.Bytes.{indexOf};
-ghost use Rattle.line.specs.Word.{space, wordsFrom, wordOf};
+ghost use Rattle.line.specs.Word.{space, between, wordOf, wordsPart, wordPart};
 ghost use Rattle.line.specs.Hex.{digitOf, hexNumber, hexBytes};
 
 // The place of the first b from a place on, or the length where there is none; a place past the end is answered as it is.
@@ -20,9 +21,10 @@ pub fn find(text: &[u8], at: usize, b: u8) -> usize
     bytes::scan::find(text, at, text.len(), b)
 }
 
-// The bytes from one place up to another, as far as there are such.
+// The bytes from one place up to another, as far as there are such; where the first lies behind the second or behind the text, nothing, at
+// the text's start.
 pub fn part(text: &[u8], start: usize, end: usize) -> &[u8]
-    ensures { λ r. ⌜ now r ≡ take (end - start) (drop start (now (text .entry))) ⌝ }
+    ensures { λ r. ⌜ seen r ≡ between (text .entry) start end ⌝ }
 {
     let to = words::least(end, text.len());
     if to < start {
@@ -33,21 +35,22 @@ pub fn part(text: &[u8], start: usize, end: usize) -> &[u8]
 
 // The first n bytes, or all where there are fewer.
 pub fn front(text: &[u8], n: usize) -> &[u8]
-    ensures { λ r. ⌜ now r ≡ take n (now (text .entry)) ⌝ }
+    ensures { λ r. ⌜ seen r ≡ frontOf (text .entry) n ⌝ }
 {
     part(text, 0, n)
 }
 
-// What stands from a word on; nothing where there are fewer words.
+// What stands from a word on; nothing, at the line's end, where there are fewer words.
 pub fn words_from(line: &[u8], k: usize) -> &[u8]
-    ensures { λ r. ⌜ now r ≡ wordsFrom (now (line .entry)) k ⌝ }
+    ensures { λ r. ⌜ seen r ≡ wordsPart (line .entry) k ⌝ }
 {
     let mut at = 0;
     let mut left = k;
     while 0 < left {
         at = find(line, at, b' ');
         if line.len() <= at {
-            return &line[..0];
+            let end = line.len();
+            return &line[end..];
         }
         at += 1;
         left -= 1;
@@ -57,7 +60,7 @@ pub fn words_from(line: &[u8], k: usize) -> &[u8]
 
 // A word by its number.
 pub fn word(line: &[u8], k: usize) -> &[u8]
-    ensures { λ r. ⌜ now r ≡ wordOf (now (line .entry)) k ⌝ }
+    ensures { λ r. ⌜ seen r ≡ wordPart (line .entry) k ⌝ }
 {
     let rest = words_from(line, k);
     front(rest, find(rest, 0, b' '))

@@ -15,6 +15,7 @@ use Rattle.log_batch.proofs.body.check.Reads as check-reads
 use Rattle.log_batch.proofs.body.plain.Kinds as plain-kinds
 use Rattle.log_batch.proofs.body.plain.Reads as plain-reads
 use denote.Ref.{now}
+use Rattle.words.specs.Part.{seen}
 use Rattle.log_batch.proofs.table.read_items.Kinds as read-items-kinds
 use Rattle.log_batch.proofs.table.read_items.Reads as read-items-reads
 use Rattle.log_batch.proofs.LogItemBatch.decode.Kinds as decode-log-item-batch-kinds
@@ -82,8 +83,8 @@ parse κs a x y s t p q = p ∙ sym q
 pub check-entry : OneAnswer 1 check-entry-kinds.ps check-entry-kinds.r check-entry-reads.Post (λ κs x y s t. x ≡ y)
 check-entry κs a x y s t p q = p ∙ sym q
 
-pub entry-view : OneAnswer 2 entry-view-kinds.ps entry-view-kinds.r entry-view-reads.Post (λ κs x y s t. (now x ≡ now y) × (now (s .1 .1 .1 .0) ≡ now (t .1 .1 .1 .0)))
-entry-view κs a x y s t p q = (p .1 ∙ sym (q .1), p .0 ∙ sym (q .0))
+pub entry-view : OneAnswer 2 entry-view-kinds.ps entry-view-kinds.r entry-view-reads.Post (λ κs x y s t. (seen x ≡ seen y) × (now (s .1 .1 .1 .0) ≡ now (t .1 .1 .1 .0)))
+entry-view κs a x y s t p q = let e : now (s .1 .1 .1 .0) ≡ now (t .1 .1 .1 .0) = p .0 ∙ sym (q .0) in (p .1 ∙ rw e (sym (q .1)), e)
 
 pub begin : OneAnswer 2 begin-kinds.ps begin-kinds.r begin-reads.Post (λ κs x y s t. (x ≡ y) × (now (s .1 .1 .1 .0) ≡ now (t .1 .1 .1 .0)))
 begin κs a x y s t p q = let e : x ≡ y = p .answer ∙ sym (q .answer) in (e, p .front ∙ (rw e (sym (q .front))))

@@ -2,12 +2,14 @@
 -- Assumes nothing.
 use Prim.Native.Nat.{ℕ, _+_, _-_, _≤_, _<_}
 use mathlib.Core.Path.{_≡_, refl, sym, ap, _∙_}
-use mathlib.Core.List.{List, []}
+use mathlib.Core.List.{List}
 use native.Mathlib.Omega.{arith}
 use native.Mathlib.Nat.{add-sub-cancel-left}
 use borrow.Author.Tests.{le-leb, lt-leb, eq-eqb, ne-eqb, leb-true}
 use lib.Dec.{leb, eqb}
-use lib.ListN.{length, take, drop}
+use lib.ListN.{length}
+use denote.Ref.{RefT, now}
+use Rattle.words.specs.Part.{Part, partAt, frontOf}
 use Rattle.refusal.proofs.First.{other-answer, first-fails, first-passes, neither-refused, taken}
 use Rattle.pipe_log.specs.declared.LogQueue.the-variants.{Append, Rewrite}
 use Rattle.pipe_log.specs.declared.Location.{Location}
@@ -48,28 +50,26 @@ module _ (row : Location) (block : List ℕ) where
       let fits = taken (leb (row .«entry_offset» + row .«entry_len») (sealedLength block)) 12 0 (neither-refused (blockCheck block) _ (same .1) .1) in
       omega (arith, leb-true (row .«entry_offset» + row .«entry_len») (sealedLength block) (fits .0))
 
-  pub view-none : {n : ℕ} → n ≡ viewCheck row block → (n ≡ 0 → ⊥) → [] ≡ viewed (viewCheck row block) row block
+module _ (row : Location) (block : RefT (List ℕ)) (n : ℕ) where
+  pub view-none : (n ≡ 0 → ⊥) → frontOf block 0 ≡ viewed n row block
   unfolding viewed
-  view-none {n} e h = rw (← e) (other-answer n _ _ h)
+  view-none h = other-answer n _ _ h
 
-  pub view-some : {n : ℕ} → n ≡ viewCheck row block → n ≡ 0
-      → take (row .«entry_offset» + row .«entry_len» - row .«entry_offset») (drop (row .«entry_offset») block) ≡ viewed (viewCheck row block) row block
+  pub view-some : n ≡ 0 → partAt block (row .«entry_offset») (row .«entry_offset» + row .«entry_len» - row .«entry_offset») ≡ viewed n row block
   unfolding viewed
-  view-some {n} e h =
-      let z : viewCheck row block ≡ 0 = sym e ∙ h in
-      rw z (ap (λ (k : ℕ). take k (drop (row .«entry_offset») block)) (add-sub-cancel-left (row .«entry_offset») (row .«entry_len»)))
+  view-some h = rw h (ap (partAt block (row .«entry_offset»)) (add-sub-cancel-left (row .«entry_offset») (row .«entry_len»)))
 
 -- ---- the block that the queue names
 
-module _ (row : Location) (append rewrite : List ℕ) {n : ℕ} {v : List ℕ} where
-  of-named : {block : List ℕ} → named (row .queue) append rewrite ≡ block → (n ≡ viewCheck row block) × (v ≡ viewed (viewCheck row block) row block)
-      → (n ≡ viewCheck row (named (row .queue) append rewrite)) × (v ≡ viewed (viewCheck row (named (row .queue) append rewrite)) row (named (row .queue) append rewrite))
-  of-named e h = rw e h
+-- what a view of a block answers: the number n and the part v
+abbrev Answer : Location → RefT (List ℕ) → ℕ → Part → Type 0
+Answer row block n v = (n ≡ viewCheck row (now block)) × (v ≡ viewed n row block)
 
-  pub view-append : row .queue ≡ Append → (n ≡ viewCheck row append) × (v ≡ viewed (viewCheck row append) row append)
-      → (n ≡ viewCheck row (named (row .queue) append rewrite)) × (v ≡ viewed (viewCheck row (named (row .queue) append rewrite)) row (named (row .queue) append rewrite))
-  view-append e h = of-named (ap (λ q. named q append rewrite) e) h
+module _ (row : Location) (append rewrite : RefT (List ℕ)) {n : ℕ} {v : Part} where
+  pub view-append : row .queue ≡ Append → Answer row append n v → Answer row (named (row .queue) append rewrite) n v
+  unfolding viewed
+  view-append e h = rw e h
 
-  pub view-rewrite : row .queue ≡ Rewrite → (n ≡ viewCheck row rewrite) × (v ≡ viewed (viewCheck row rewrite) row rewrite)
-      → (n ≡ viewCheck row (named (row .queue) append rewrite)) × (v ≡ viewed (viewCheck row (named (row .queue) append rewrite)) row (named (row .queue) append rewrite))
-  view-rewrite e h = of-named (ap (λ q. named q append rewrite) e) h
+  pub view-rewrite : row .queue ≡ Rewrite → Answer row rewrite n v → Answer row (named (row .queue) append rewrite) n v
+  unfolding viewed
+  view-rewrite e h = rw e h

@@ -2,9 +2,11 @@
 -- Assumes nothing.
 use Prim.Native.Nat.{ℕ, _+_}
 use mathlib.Core.Bool.{cond}
-use mathlib.Core.List.{List, []}
+use mathlib.Core.List.{List}
 use lib.Dec.{leb, eqb}
-use lib.ListN.{length, take, drop}
+use lib.ListN.{length}
+use denote.Ref.{RefT}
+use Rattle.words.specs.Part.{Part, partAt, frontOf}
 use Rattle.refusal.specs.First.{firstOf, ifNone}
 use Rattle.pipe_log.specs.declared.LogQueue.{LogQueue}
 use Rattle.pipe_log.specs.declared.LogQueue.the-variants.{Append, Rewrite}
@@ -12,7 +14,7 @@ use Rattle.pipe_log.specs.declared.Location.{Location}
 use Rattle.log_batch.specs.Seal.{blockCheck, sealedLength}
 
 -- the block that the queue names
-abbrev pub named : LogQueue → List ℕ → List ℕ → List ℕ
+abbrev pub named : LogQueue → RefT (List ℕ) → RefT (List ℕ) → RefT (List ℕ)
 named Append append rewrite = append
 named Rewrite append rewrite = rewrite
 
@@ -24,6 +26,6 @@ entryCheck long offset len block =
 abbrev pub viewCheck : Location → List ℕ → ℕ
 viewCheck row block = entryCheck (row .len) (row .«entry_offset») (row .«entry_len») block
 
--- the bytes of the entry; nothing where a check failed
-unfoldable pub viewed : ℕ → Location → List ℕ → List ℕ
-viewed r row block = ifNone r (take (row .«entry_len») (drop (row .«entry_offset») block)) []
+-- the entry's part of the block; where a check failed an empty one, at the block's start
+unfoldable pub viewed : ℕ → Location → RefT (List ℕ) → Part
+viewed r row block = ifNone r (partAt block (row .«entry_offset») (row .«entry_len»)) (frontOf block 0)

@@ -1,21 +1,22 @@
 // The bytes of an entry, as a part of the block that its row names.
 ghost use mathlib.Core.Path.{_≡_};
+ghost use Rattle.words.specs.Part.{seen};
 ghost use Rattle.log_batch.specs.View.{named, entryCheck, viewCheck, viewed};
 use crate::seal::check_block;
 use crate::seal::sealed_len;
 use pipe_log::Location;
 use pipe_log::LogQueue;
 
-// The bytes of an entry, as a part of whichever block its row's queue names. Where a check fails the part is empty; `refused` is set at
-// each call to the number of that check, or to 0.
+// The bytes of an entry, as a part of whichever block its row's queue names. Where a check fails the part is empty, at that block's start;
+// `refused` is set at each call to the number of that check, or to 0.
 pub fn entry_view<'a>(
     row: Location,
     append: &'a [u8],
     rewrite: &'a [u8],
     refused: &mut u32,
 ) -> &'a [u8]
-    ensures { λ r. ⌜ (now (refused .exit) ≡ viewCheck row (named (row .queue) (now (append .entry)) (now (rewrite .entry))))
-        × (now r ≡ viewed (viewCheck row (named (row .queue) (now (append .entry)) (now (rewrite .entry)))) row (named (row .queue) (now (append .entry)) (now (rewrite .entry)))) ⌝ }
+    ensures { λ r. ⌜ (now (refused .exit) ≡ viewCheck row (now (named (row .queue) (append .entry) (rewrite .entry))))
+        × (seen r ≡ viewed (now (refused .exit)) row (named (row .queue) (append .entry) (rewrite .entry))) ⌝ }
 {
     let queue = row.queue;
     match queue {
@@ -26,7 +27,7 @@ pub fn entry_view<'a>(
 
 // The same of one block.
 fn part_of<'a>(row: Location, block: &'a [u8], refused: &mut u32) -> &'a [u8]
-    ensures { λ r. ⌜ (now (refused .exit) ≡ viewCheck row (now (block .entry))) × (now r ≡ viewed (viewCheck row (now (block .entry))) row (now (block .entry))) ⌝ }
+    ensures { λ r. ⌜ (now (refused .exit) ≡ viewCheck row (now (block .entry))) × (seen r ≡ viewed (now (refused .exit)) row (block .entry)) ⌝ }
 {
     let number = check_entry(
         block,

@@ -2,3 +2,4 @@ pub mod Word
 pub mod Write
 pub mod Byte
 pub mod Place
+pub mod Part

@@ -1,5 +1,6 @@
 -- `line::bytes` meets its contract. The loop's invariant, `Laid`: the bytes so far stand in front of what was there.
 -- Assumes nothing.
+use mathlib.Core.Path.{ap}
 use Prim.Native.Nat.{_-_}
 use Rattle.line.proofs.Digits.{Laid, laid-start, laid-more, laid-end}
 use borrow.Author.Needs.{needs}
@@ -55,7 +56,7 @@ same-length : tie.Need-same-length Inv-loop μ-loop
 same-length c = search needs
 
 returns : tie.Need-returns Inv-loop μ-loop
-returns c = laid-end (c .before .before .least .ensures) (c .before .loop .inv) (c .loop-test .left) (c .before .before .before .word .ensures)
+returns c = laid-end (c .before .before .least .ensures) (c .before .loop .inv) (c .loop-test .left) (ap (λ p. p .bytes) (c .before .before .before .word .ensures))
 
 pub bytes-spec : {M : Type 1} → statement M
 bytes-spec =

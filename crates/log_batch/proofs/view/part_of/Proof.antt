@@ -21,7 +21,7 @@ slice-aggregate-result : tie.Need-slice-aggregate-result
 slice-aggregate-result c = search needs
 
 returns : tie.Need-returns
-returns c = (c .before .before .check-entry .ensures, view-none _ _ (c .before .before .check-entry .ensures) (c .before .if1 .taken))
+returns c = let a = c .before .before .before .before .before .before .args in (c .before .before .check-entry .ensures, view-none (a .row) (a .block) _ (c .before .if1 .taken))
 
 cast-start : tie.Need-cast-start
 cast-start c = search needs
@@ -42,7 +42,7 @@ part-result-end : tie.Need-part-result-end
 part-result-end c = let a = c .before .before .before .before .before .before .before .args in omega (arith, entry-lies (a .row) (now (a .block)) (sym (c .before .before .before .check-entry .ensures) ∙ c .before .before .if1 .left))
 
 returns-2 : tie.Need-returns-2
-returns-2 c = (c .before .before .before .before .check-entry .ensures, view-some _ _ (c .before .before .before .before .check-entry .ensures) (c .before .before .before .if1 .left))
+returns-2 c = let a = c .before .before .before .before .before .before .before .before .args in (c .before .before .before .before .check-entry .ensures, view-some (a .row) (a .block) _ (c .before .before .before .if1 .left))
 
 pub part-of-spec : {M : Type 1} → statement M
 part-of-spec =
