@@ -2,7 +2,6 @@ pub mod Rows
 pub mod Scans
 pub mod Copies
 pub mod Surveys
-pub mod Limits
 pub mod Fetches
 pub mod Rewrites
 pub mod Determined

@@ -4,11 +4,10 @@ use mathlib.Core.Path.{_≡_, refl, sym, ap, _∙_}
 use Prim.Native.Nat.{ℕ, _+_, _-_, _*_, _≤_}
 use native.Mathlib.Nat.{div-mul-le-self}
 use native.Mathlib.Omega.{arith}
-use mathlib.Core.Bool.{Bool, true, false, cond}
+use mathlib.Core.Bool.{Bool, true, false}
 use mathlib.Core.List.{List, _++_}
 use lib.ListN.{length, take, drop}
 use lib.Seq.{paste, paste-zero}
-use Rattle.pipe_log.specs.declared.Location.{Location}
 use Rattle.location_rules.specs.declared.Table.{Table}
 use Rattle.location_rules.specs.declared.Gate.{Gate}
 use Rattle.location_rules.specs.declared.Stop.{Stop}
@@ -19,18 +18,16 @@ use Rattle.memtable.specs.Table.{wellFormed, ready}
 use Rattle.location_rules.specs.Decisions.{unchanged, answered}
 use Rattle.location_rules.specs.Row.{stopOf}
 use Rattle.memtable.specs.Rewriting.{rewriteOf, rowsAfter}
-use Rattle.location_rules.specs.Parts.{inReach, readyBy}
+use Rattle.location_rules.specs.Parts.{readyBy}
 use Rattle.location_rules.specs.Overlaps.{overlapOf}
 use Rattle.location_rules.proofs.Deciding as decide
 use Rattle.memtable.proofs.Surveys.{ready-by}
 use Rattle.memtable.proofs.Rewrites.{run-fits, rewritten-by}
-use Rattle.memtable.proofs.Theorems.{refused-kept}
 use Rattle.location_rows.specs.Words.{areRows, locationCount, rows, broken, rowsOf, rowsWords, located}
-use Rattle.location_rows.specs.Answers.{limited, RowsRewritten}
+use Rattle.location_rows.specs.Answers.{RowsRewritten}
 use Rattle.location_rows.specs.Private.{formedWords, readyWords}
 use Rattle.location_rows.proofs.Rows.{pasted}
 use Rattle.location_rows.proofs.Surveys.{located-length, words-unformed, words-unready}
-use Rattle.location_rows.proofs.Limits.{limit-refused, limit-none, limited-le, limited-out}
 
 -- ---- what is known of the words
 
@@ -55,42 +52,33 @@ no-rows words h = rw h refl
 -- the facts of the calls, in their order
 module _ (words : List ℕ) (t : Table) (incoming : List ℕ) (first : ℕ) {p : Overlap}
     (over : p ≡ overlapOf (first - t .first) (t .first - first) (locationCount words) (locationCount incoming)) where
-  module _ (gate : Gate) (good isReady : Bool) (s : Stop) {e : ℕ} {d a : Rewritten}
+  module _ (gate : Gate) (good isReady : Bool) (s : Stop) {e : ℕ} {a : Rewritten}
       (ran : e ≡ p .start + runOf s (take (p .end - p .start) (drop (p .start) (located words))))
-      (decided : d ≡ answered good isReady t (p .start) (p .end - p .start) (e - p .start) gate)
-      (reply : a ≡ limited (locationCount words) (locationCount incoming) t d) where
+      (decided : a ≡ answered good isReady t (p .start) (p .end - p .start) (e - p .start) gate) where
     over-located : p ≡ overlapOf (first - t .first) (t .first - first) (length (located words)) (length (located incoming))
     over-located = rw (located-length words, located-length incoming) over
 
-    fits : (p .start + d .replaced ≤ locationCount words) × (p .from + d .replaced ≤ locationCount incoming)
+    fits : (p .start + a .replaced ≤ locationCount words) × (p .from + a .replaced ≤ locationCount incoming)
     fits =
-        let h = run-fits (located words) t (located incoming) first good isReady p s e d gate over-located ran decided in
+        let h = run-fits (located words) t (located incoming) first good isReady p s e a gate over-located ran decided in
         (omega (arith, h .0, located-length words), omega (arith, h .1, located-length incoming))
 
     pub replace-room : (p .start * 6 + a .replaced * 6 ≤ length words) × (p .from * 6 + a .replaced * 6 ≤ length incoming)
-    replace-room =
-        let k : a .replaced ≤ d .replaced = rw reply (limited-le (locationCount words) (locationCount incoming) t d) in
-        (omega (arith, k, fits .0, div-mul-le-self (length words) 6), omega (arith, k, fits .1, div-mul-le-self (length incoming) 6))
+    replace-room = (omega (arith, fits .0, div-mul-le-self (length words) 6), omega (arith, fits .1, div-mul-le-self (length incoming) 6))
 
     module _ {later : List ℕ} (formed : good ≡ formedWords words t) (taken : isReady ≡ readyWords incoming first) (stops : s ≡ stopOf gate)
         (copied : later ≡ paste words (p .start * 6) (drop (p .from * 6) incoming) (a .replaced * 6)) where
-      -- nothing is replaced
-      as-before : a .replaced ≡ 0 → later ≡ words
+      -- a refusal changes no word
+      as-before : {k : ℕ} → a ≡ unchanged k (t .count) → later ≡ words
       as-before z =
-          copied ∙ ap (λ (k : ℕ). paste words (p .start * 6) (drop (p .from * 6) incoming) (k * 6)) z ∙ sym (paste-zero words (p .start * 6) (drop (p .from * 6) incoming))
-
-      -- a refusal k
-      refused : (k : ℕ) → (k ≡ 0 → ⊥) → d ≡ unchanged k (t .count) → (a ≡ unchanged k (t .count)) × (later ≡ words)
-      refused k f h =
-          let z : a ≡ unchanged k (t .count) = reply ∙ sym (limit-refused (locationCount words) (locationCount incoming) t d (rw h f)) ∙ h in
-          (z, as-before (ap (λ (w : Rewritten). w .replaced) z))
+          copied ∙ ap (λ (r : Rewritten). paste words (p .start * 6) (drop (p .from * 6) incoming) (r .replaced * 6)) z ∙ sym (paste-zero words (p .start * 6) (drop (p .from * 6) incoming))
 
       -- a row of the table is no location's
       table-broken : areRows (locationCount words) words ≡ false → RowsRewritten words t incoming first gate a later
       table-broken h =
           let g : good ≡ false = formed ∙ sym (words-unformed words refl h t) in
-          let z = refused 26 (λ k. omega arith) (decided ∙ sym (decide.broken good isReady t (p .start) (p .end) e gate _ g refl)) in
-          record { answer = rw (no-rows words h) (z .0); after = rw (no-rows words h) (z .1) }
+          let z : a ≡ unchanged 26 (t .count) = decided ∙ sym (decide.broken good isReady t (p .start) (p .end) e gate _ g refl) in
+          record { answer = rw (no-rows words h) z; after = rw (no-rows words h) (as-before z) }
 
       module _ (h : areRows (locationCount words) words ≡ true) where
         good-is : good ≡ wellFormed (located words) t
@@ -104,12 +92,12 @@ module _ (words : List ℕ) (t : Table) (incoming : List ℕ) (first : ℕ) {p :
             told true j =
                 let g : good ≡ true = good-is ∙ j in
                 let k : isReady ≡ false = taken ∙ sym (words-unready incoming refl i first) in
-                let z = refused 27 (λ k. omega arith) (decided ∙ sym (decide.not-ready good isReady t (p .start) (p .end) e gate _ g k refl)) in
-                record { answer = rw (are-rows words h, no-rows incoming i, j) (z .0); after = rw (are-rows words h, no-rows incoming i) (z .1) }
+                let z : a ≡ unchanged 27 (t .count) = decided ∙ sym (decide.not-ready good isReady t (p .start) (p .end) e gate _ g k refl) in
+                record { answer = rw (are-rows words h, no-rows incoming i, j) z; after = rw (are-rows words h, no-rows incoming i) (as-before z) }
             told false j =
                 let g : good ≡ false = good-is ∙ j in
-                let z = refused 26 (λ k. omega arith) (decided ∙ sym (decide.broken good isReady t (p .start) (p .end) e gate _ g refl)) in
-                record { answer = rw (are-rows words h, no-rows incoming i, j) (z .0); after = rw (are-rows words h, no-rows incoming i) (z .1) }
+                let z : a ≡ unchanged 26 (t .count) = decided ∙ sym (decide.broken good isReady t (p .start) (p .end) e gate _ g refl) in
+                record { answer = rw (are-rows words h, no-rows incoming i, j) z; after = rw (are-rows words h, no-rows incoming i) (as-before z) }
 
         -- all are
         module _ (i : areRows (locationCount incoming) incoming ≡ true) where
@@ -119,28 +107,17 @@ module _ (words : List ℕ) (t : Table) (incoming : List ℕ) (first : ℕ) {p :
           ready-is : isReady ≡ readyBy wrong (length (located incoming)) first
           ready-is = taken ∙ is-taken incoming first i ∙ sym (ready-by (located incoming) first wrong (readyBy wrong (length (located incoming)) first) refl refl)
 
-          rewrites : (d ≡ rewriteOf (located words) t (located incoming) first gate) × (paste (located words) (p .start) (drop (p .from) (located incoming)) (d .replaced) ≡ rowsAfter (located words) t (located incoming) first gate)
-          rewrites = rewritten-by (located words) t (located incoming) first gate good wrong isReady p s e d _ good-is refl ready-is over-located stops ran decided refl
+          rewrites : (a ≡ rewriteOf (located words) t (located incoming) first gate) × (paste (located words) (p .start) (drop (p .from) (located incoming)) (a .replaced) ≡ rowsAfter (located words) t (located incoming) first gate)
+          rewrites = rewritten-by (located words) t (located incoming) first gate good wrong isReady p s e a _ good-is refl ready-is over-located stops ran decided refl
 
-          answer-is : a ≡ limited (length (located words)) (length (located incoming)) t (rewriteOf (located words) t (located incoming) first gate)
-          answer-is = rw (located-length words, located-length incoming, sym (rewrites .0)) reply
-
-          after-is : later ≡ cond (inReach (length (located words)) (length (located incoming))) (rowsWords (rowsAfter (located words) t (located incoming) first gate) ++ drop (length (located words) * 6) words) words
-          after-is = rw (located-length words, located-length incoming) (told (inReach (locationCount words) (locationCount incoming)) refl)
-            where
-              told : (b : Bool) → inReach (locationCount words) (locationCount incoming) ≡ b → later ≡ cond b (rowsWords (rowsAfter (located words) t (located incoming) first gate) ++ drop (locationCount words * 6) words) words
-              told true j =
-                  copied ∙ ap (λ (r : Rewritten). paste words (p .start * 6) (drop (p .from * 6) incoming) (r .replaced * 6)) (reply ∙ sym (limit-none (locationCount words) (locationCount incoming) t d j))
-                  ∙ pasted (locationCount words) (locationCount incoming) words incoming (p .start) (p .from) (d .replaced) (div-mul-le-self (length words) 6) (div-mul-le-self (length incoming) 6) h i (fits .0) (fits .1)
-                  ∙ ap (λ (v : List Location). rowsWords v ++ drop (locationCount words * 6) words) (rewrites .1)
-              told false j =
-                  as-before (ap (λ (r : Rewritten). r .replaced) reply ∙ limited-out (locationCount words) (locationCount incoming) t d j none)
-                where
-                  none : (d .number ≡ 0 → ⊥) → d .replaced ≡ 0
-                  none = rw (rewrites .0) (λ f. refused-kept (located words) t (located incoming) first gate f .0)
+          after-is : later ≡ rowsWords (rowsAfter (located words) t (located incoming) first gate) ++ drop (length (located words) * 6) words
+          after-is =
+              copied
+              ∙ pasted (locationCount words) (locationCount incoming) words incoming (p .start) (p .from) (a .replaced) (div-mul-le-self (length words) 6) (div-mul-le-self (length incoming) 6) h i (fits .0) (fits .1)
+              ∙ (rw (rewrites .1, located-length words) refl)
 
           all-located : RowsRewritten words t incoming first gate a later
-          all-located = record { answer = rw (are-rows words h, are-rows incoming i) answer-is; after = rw (are-rows words h, are-rows incoming i) after-is }
+          all-located = record { answer = rw (are-rows words h, are-rows incoming i) (rewrites .0); after = rw (are-rows words h, are-rows incoming i) after-is }
 
       pub rewritten : RowsRewritten words t incoming first gate a later
       rewritten = told (areRows (locationCount words) words) (areRows (locationCount incoming) incoming) refl refl

@@ -1,29 +1,24 @@
 -- What is promised of the rewrite on rows of words besides its contract.
 -- Assumes nothing.
-use mathlib.Core.Path.{_≡_, refl, sym, ap, _∙_}
+use mathlib.Core.Path.{_≡_, refl, ap, _∙_}
 use Prim.Native.Nat.{ℕ, _*_}
 use native.Mathlib.Nat.{div-mul-le-self}
 use native.Mathlib.Omega.{arith}
 use mathlib.Core.Bool.{Bool, true, false, cond}
 use mathlib.Core.List.{List, _++_}
-use lib.Dec.{leb, eqb}
+use lib.Dec.{leb}
 use lib.ListN.{length, drop, take-append-drop}
-use borrow.Author.Tests.{eqb-true, eqb-false}
 use Rattle.pipe_log.specs.declared.Location.{Location}
 use Rattle.pipe_log.specs.declared.LogQueue.{LogQueue}
 use Rattle.location_rules.specs.declared.Table.{Table}
 use Rattle.location_rules.specs.declared.Gate.{Gate}
-use Rattle.location_rules.specs.declared.Rewritten.{Rewritten}
 use Rattle.memtable.specs.Table.{wellFormed}
 use Rattle.location_rules.specs.Decisions.{unchanged, Kept}
-use Rattle.memtable.specs.Rewriting.{rewriteOf, rowsAfter}
 use Rattle.memtable.proofs.Theorems.{refused-kept}
 use Rattle.location_rows.specs.Words.{startsWell, locationOf, areRows, locationCount, Rows, rows, broken, rowsOf, queueOf, queueWord, rowWords, rowsWords, located}
-use Rattle.location_rules.specs.Parts.{inReach}
-use Rattle.location_rows.specs.Answers.{limited, rewriteRows, rowsAfterwards}
+use Rattle.location_rows.specs.Answers.{rewriteRows, rowsAfterwards}
 use Rattle.location_rows.proofs.Rows.{rows-back}
 use Rattle.location_rows.proofs.Surveys.{located-length}
-use Rattle.location_rows.proofs.Limits.{limit-refused, limit-none, limit-21}
 
 queue-again : (q : LogQueue) → (leb (queueWord q) 1 ≡ true) × (queueOf (queueWord q) ≡ q)
 queue-again LogQueue.Append = (refl, refl)
@@ -64,24 +59,9 @@ module _ (words : List ℕ) (t : Table) (first : ℕ) (gate : Gate) where
       told : (c : Bool) → Kept words t (cond c (unchanged 27 (t .count)) (unchanged 26 (t .count))) words
       told true = (refl, (refl, refl))
       told false = (refl, (refl, refl))
-  kept (rows xs) (rows ys) e f = told (inReach (length xs) (length ys)) refl
-    where
-      r : Rewritten
-      r = rewriteOf xs t ys first gate
-
-      told : (c : Bool) → inReach (length xs) (length ys) ≡ c → Kept words t (limited (length xs) (length ys) t r) (cond c (rowsWords (rowsAfter xs t ys first gate) ++ drop (length xs * 6) words) words)
-      told true h =
-          let same : limited (length xs) (length ys) t r ≡ r = sym (limit-none (length xs) (length ys) t r h) in
-          let k = refused-kept xs t ys first gate (rw same at f) in
-          rw same (k .0, (k .1 .0, ap (λ (v : List Location). rowsWords v ++ drop (length xs * 6) words) (k .1 .1) ∙ located-rows words xs e))
-      told false h = outside (eqb (r .number) 0) refl
-        where
-          outside : (c : Bool) → eqb (r .number) 0 ≡ c → Kept words t (limited (length xs) (length ys) t r) words
-          outside true i = rw (← limit-21 (length xs) (length ys) t r (eqb-true (r .number) 0 i) h refl) (refl, (refl, refl))
-          outside false i =
-              let f : r .number ≡ 0 → ⊥ = eqb-false (r .number) 0 i in
-              let k = refused-kept xs t ys first gate f in
-              rw (← limit-refused (length xs) (length ys) t r f) (k .0, (k .1 .0, refl))
+  kept (rows xs) (rows ys) e f =
+      let k = refused-kept xs t ys first gate f in
+      (k .0, (k .1 .0, ap (λ (v : List Location). rowsWords v ++ drop (length xs * 6) words) (k .1 .1) ∙ located-rows words xs e))
 
   -- A refused rewrite changes no word, and answers 0 and the old count.
   pub refused-words : (incoming : List ℕ) → (rewriteRows (rowsOf words) t (rowsOf incoming) first gate .number ≡ 0 → ⊥)

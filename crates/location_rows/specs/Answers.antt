@@ -2,16 +2,14 @@
 -- Assumes nothing.
 use mathlib.Core.Path.{_≡_}
 use Prim.Native.Nat.{ℕ, _*_}
-use mathlib.Core.Bool.{not, cond, _&&_}
+use mathlib.Core.Bool.{cond}
 use mathlib.Core.List.{List, _++_}
-use lib.Dec.{eqb}
 use lib.ListN.{length, drop}
 use Rattle.location_rules.specs.declared.Table.{Table}
 use Rattle.location_rules.specs.declared.Gate.{Gate}
 use Rattle.location_rules.specs.declared.Rewritten.{Rewritten}
 use Rattle.location_rules.specs.declared.Fetched.{Fetched}
 use Rattle.memtable.specs.Table.{wellFormed}
-use Rattle.location_rules.specs.Parts.{inReach}
 use Rattle.location_rules.specs.Decisions.{unchanged, noRun}
 use Rattle.memtable.specs.Rewriting.{rewriteOf, rowsAfter}
 use Rattle.memtable.specs.Fetching.{fetchOf}
@@ -20,29 +18,21 @@ use Rattle.location_rows.specs.Words.{Rows, rows, broken, rowsOf, rowsWo
 abbrev pub tableFrom : ℕ → ℕ → Table
 tableFrom first count = record { first = first; count = count }
 
--- an answer that refuses nothing is a 21 where there are more than 64 rows: it comes after every other check
-unfoldable pub limited : ℕ → ℕ → Table → Rewritten → Rewritten
-limited n m t r = cond (eqb (r .number) 0 && not (inReach n m)) (unchanged 21 (t .count)) r
-
-unfoldable pub limitedFetch : ℕ → Fetched → Fetched
-limitedFetch n f = cond (eqb (f .number) 0 && not (inReach n 0)) (noRun 21) f
-
 -- a row of the table that is no location's is a 26, an incoming one a 27
 abbrev pub rewriteRows : Rows → Table → Rows → ℕ → Gate → Rewritten
 rewriteRows broken t incoming first gate = unchanged 26 (t .count)
 rewriteRows (rows xs) t broken first gate = cond (wellFormed xs t) (unchanged 27 (t .count)) (unchanged 26 (t .count))
-rewriteRows (rows xs) t (rows ys) first gate = limited (length xs) (length ys) t (rewriteOf xs t ys first gate)
+rewriteRows (rows xs) t (rows ys) first gate = rewriteOf xs t ys first gate
 
--- the words of the rows after the rewrite, then what stood there; the words as they were where a row is no location's or there are more than 64
+-- the words of the rows after the rewrite, then what stood there; the words as they were where a row is no location's
 abbrev pub rowsAfterwards : Rows → Table → Rows → ℕ → Gate → List ℕ → List ℕ
 rowsAfterwards broken t incoming first gate words = words
 rowsAfterwards (rows xs) t broken first gate words = words
-rowsAfterwards (rows xs) t (rows ys) first gate words =
-    cond (inReach (length xs) (length ys)) (rowsWords (rowsAfter xs t ys first gate) ++ drop (length xs * 6) words) words
+rowsAfterwards (rows xs) t (rows ys) first gate words = rowsWords (rowsAfter xs t ys first gate) ++ drop (length xs * 6) words
 
 abbrev pub fetchRows : Rows → Table → ℕ → Fetched
 fetchRows broken t gate = noRun 26
-fetchRows (rows xs) t gate = limitedFetch (length xs) (fetchOf xs t gate)
+fetchRows (rows xs) t gate = fetchOf xs t gate
 
 -- the answer r to a rewrite of the words of a table, and their later contents
 pub record RowsRewritten (words : List ℕ) (t : Table) (incoming : List ℕ) (first : ℕ) (gate : Gate) (r : Rewritten) (later : List ℕ) : Type 0 where

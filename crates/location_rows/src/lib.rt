@@ -7,21 +7,17 @@ ghost use lib.Seq.{paste};
 ghost use Rattle.location_rules.specs.Row.{stopsAt, rowStart};
 ghost use Rattle.memtable.specs.Rows.{runOf};
 ghost use Rattle.location_rows.specs.Words.{locationCount, queueOf, areRows, located};
-ghost use Rattle.location_rows.specs.Answers.{tableFrom, limited, RowsRewritten, fetchWords};
+ghost use Rattle.location_rows.specs.Answers.{tableFrom, RowsRewritten, fetchWords};
 ghost use Rattle.location_rows.specs.Private.{formedWords, readyWords};
 use location_rules::Fetched;
 use location_rules::Gate;
 use location_rules::Rewritten;
 use location_rules::Stop;
 use location_rules::Table;
-use location_rules::in_reach;
-use location_rules::no_run;
-use location_rules::unchanged;
 use pipe_log::Location;
 use pipe_log::LogQueue;
 
-// Replaces rows of a table by incoming ones, up to the first stop. More than 64 rows of either: 21, after every other check. A refused
-// rewrite changes no word, and answers 0 and the old count.
+// Replaces rows of a table by incoming ones, up to the first stop. A refused rewrite changes no word, and answers 0 and the old count.
 pub fn rewrite(
     table: &mut [u64],
     first_index: u64,
@@ -43,8 +39,7 @@ pub fn rewrite(
     let over = location_rules::overlap_of(first_index, n, incoming_first, m);
     let stop = location_rules::stop_of(gate);
     let end = scan(table, over.start, over.end, stop);
-    let decided = location_rules::decide(good, ready, t, over, end, gate);
-    let answer = limit(n, m, t, decided);
+    let answer = location_rules::decide(good, ready, t, over, end, gate);
     replace(
         table,
         incoming,
@@ -55,7 +50,7 @@ pub fn rewrite(
     answer
 }
 
-// The longest run of rows from the rewritten count on with file number at most the gate. More than 64 rows: 21, after 26.
+// The longest run of rows from the rewritten count on with file number at most the gate.
 pub fn fetch(table: &[u64], first_index: u64, rewritten: u64, gate: u64) -> Fetched
     ensures { λ r. ⌜ r ≡ fetchWords (now (table .entry)) (tableFrom «first_index» rewritten) gate ⌝ }
 {
@@ -67,9 +62,6 @@ pub fn fetch(table: &[u64], first_index: u64, rewritten: u64, gate: u64) -> Fetc
     let count = t.count;
     if !is_well_formed(table, t) {
         return location_rules::run_from(false, t, 0, 0);
-    }
-    if !in_reach(n, 0) {
-        return no_run(refusal::OUTPUT_SHORT);
     }
     let end = scan(table, count, n, Stop::Above(gate));
     location_rules::run_from(true, t, count, end)
@@ -157,19 +149,6 @@ fn queue_of(queue: u64) -> LogQueue
         return LogQueue::Append;
     }
     LogQueue::Rewrite
-}
-
-// The answer for n rows and m incoming ones.
-fn limit(n: usize, m: usize, table: Table, r: Rewritten) -> Rewritten
-    ensures { λ a. ⌜ a ≡ limited n m table r ⌝ }
-{
-    if r.number != refusal::NONE {
-        return r;
-    }
-    if in_reach(n, m) {
-        return r;
-    }
-    unchanged(refusal::OUTPUT_SHORT, table.count)
 }
 
 // Puts len incoming words, those from `from` on, in the place of the words from `at` on.

@@ -1,4 +1,4 @@
--- Whether a table is well formed, incoming rows are taken and there are more than 64 rows, by the ways through the functions that tell it from numbers.
+-- Whether a table is well formed and incoming rows are taken, by the ways through the functions that tell it from numbers.
 -- Assumes nothing.
 use mathlib.Core.Path.{_≡_, refl, sym}
 use Prim.Native.Nat.{ℕ, _+_, _-_, _<_, _≤_, _^_}
@@ -9,7 +9,7 @@ use lib.Dec.{leb}
 use borrow.Author.Tests.{le-leb, lt-leb}
 use Rattle.words.proofs.Tests.{same-test}
 use Rattle.location_rules.specs.declared.Table.{Table}
-use Rattle.location_rules.specs.Parts.{indexesFit, inReach, wellFormedBy, readyBy}
+use Rattle.location_rules.specs.Parts.{indexesFit, wellFormedBy, readyBy}
 
 -- indexes from first on, n of them
 module _ (first n : ℕ) where
@@ -18,14 +18,6 @@ module _ (first n : ℕ) where
 
   pub fit-some : (n ≡ 0 → ⊥) → first < 2 ^ 64 → leb (n - 1) (18446744073709551615 - first) ≡ indexesFit first n
   fit-some e l = same-test (n - 1) (18446744073709551615 - first) (first + n) 18446744073709551616 (λ h. omega (arith, h, l, pos-of-ne-zero e)) (λ h. omega (arith, h, l, pos-of-ne-zero e))
-
--- more than 64 rows, of these or of the others
-module _ (n m : ℕ) where
-  pub too-many : 64 < n → false ≡ inReach n m
-  too-many l = rw (lt-leb n 64 l) refl
-
-  pub others-reach : n ≤ 64 → leb m 64 ≡ inReach n m
-  others-reach l = rw (le-leb n 64 l) refl
 
 module _ (t : Table) (n front back : ℕ) where
   pub beyond : n < t .count → false ≡ wellFormedBy t n front back

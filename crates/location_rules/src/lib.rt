@@ -3,7 +3,7 @@
 // location_rows of words. From memtable.rs, rewrite and fetch_entry_indexes_before.
 ghost use mathlib.Core.Path.{_≡_};
 ghost use Rattle.location_rules.specs.Row.{stopsAt, stopOf};
-ghost use Rattle.location_rules.specs.Parts.{indexesFit, inReach, wellFormedBy, readyBy};
+ghost use Rattle.location_rules.specs.Parts.{indexesFit, wellFormedBy, readyBy};
 ghost use Prim.Native.Nat.{_+_, _-_, _<_, max};
 ghost use Rattle.location_rules.specs.Overlaps.{overlapAt, overlapOf};
 ghost use Rattle.location_rules.specs.Decisions.{unchanged, answered, noRun, fetched};
@@ -58,16 +58,6 @@ pub fn stop_of(gate: Gate) -> Stop
         Gate::None => Stop::Append,
         Gate::Given(number) => Stop::Above(number),
     }
-}
-
-// Whether neither n rows nor m others are more than 64, where so many are the most.
-pub fn in_reach(n: usize, m: usize) -> bool
-    ensures { λ r. ⌜ r ≡ inReach n m ⌝ }
-{
-    if 64 < n {
-        return false;
-    }
-    m <= 64
 }
 
 // Whether the indexes of n rows from first on end at 2^64 - 1 or before.

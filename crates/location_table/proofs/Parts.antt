@@ -8,7 +8,7 @@ use mathlib.Core.List.{List, [], _∷_, _++_}
 use lib.Dec.{leb}
 use lib.ListN.{length, take, drop}
 use lib.Seq.{length-take-le, length-front}
-use borrow.Author.Tests.{leb-true}
+use borrow.Author.Tests.{leb-true, le-leb, lt-leb}
 use denote.Slice.{Room}
 use Rattle.pipe_log.specs.declared.Location.{Location}
 use Rattle.pipe_log.proofs.Location as T
@@ -16,12 +16,19 @@ use Rattle.location_rules.specs.declared.Table.{Table}
 use Rattle.location_rules.specs.declared.Gate.{Gate}
 use Rattle.location_rules.specs.declared.Rewritten.{Rewritten}
 use Rattle.location_rules.specs.declared.Fetched.{Fetched}
-use Rattle.location_rules.specs.Parts.{inReach}
 use Rattle.location_rules.specs.Decisions.{unchanged, noRun}
 use Rattle.memtable.specs.Rewriting.{rewriteOf, rowsAfter}
 use Rattle.memtable.specs.Fetching.{fetchOf}
 use Rattle.location_table.specs.Private.{rowsUsed}
-use Rattle.location_table.specs.Values.{answerOf, fetchedOf, rewriteValue, rowsValue, fetchValue}
+use Rattle.location_table.specs.Values.{inReach, answerOf, fetchedOf, rewriteValue, rowsValue, fetchValue}
+
+-- the ways through the test of their number
+module _ (n m : ℕ) where
+  pub too-many : 64 < n → false ≡ inReach n m
+  too-many l = rw (lt-leb n 64 l) refl
+
+  pub others-reach : n ≤ 64 → leb m 64 ≡ inReach n m
+  others-reach l = rw (le-leb n 64 l) refl
 
 -- the two ways to use rows
 module _ (len other : ℕ) where

@@ -2,7 +2,7 @@
 -- Assumes nothing.
 use Prim.Native.Nat.{ℕ}
 use mathlib.Core.Bool.{cond}
-use Rattle.location_rules.specs.Parts.{inReach}
+use Rattle.location_table.specs.Values.{inReach}
 
 -- how many of these rows are lent: none where there are more than 64 of them or of the others
 unfoldable pub rowsUsed : ℕ → ℕ → ℕ

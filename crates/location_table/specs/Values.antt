@@ -1,18 +1,22 @@
 -- Tables of at most 64 locations by value: memtable's definitions, of the rows that are used.
 -- Assumes nothing.
 use Prim.Native.Nat.{ℕ}
-use mathlib.Core.Bool.{cond}
+use mathlib.Core.Bool.{Bool, _&&_, cond}
 use mathlib.Core.List.{List, _++_}
+use lib.Dec.{leb}
 use lib.ListN.{take, drop}
 use Rattle.pipe_log.specs.declared.Location.{Location}
 use Rattle.location_rules.specs.declared.Table.{Table}
 use Rattle.location_rules.specs.declared.Gate.{Gate}
 use Rattle.location_rules.specs.declared.Rewritten.{Rewritten}
 use Rattle.location_rules.specs.declared.Fetched.{Fetched}
-use Rattle.location_rules.specs.Parts.{inReach}
 use Rattle.location_rules.specs.Decisions.{unchanged, noRun}
 use Rattle.memtable.specs.Rewriting.{rewriteOf, rowsAfter}
 use Rattle.memtable.specs.Fetching.{fetchOf}
+
+-- neither has more than 64 rows
+abbrev pub inReach : ℕ → ℕ → Bool
+inReach n m = leb n 64 && leb m 64
 
 -- more than 64 rows: 21, nothing replaced and the old count
 unfoldable pub answerOf : ℕ → ℕ → Table → Rewritten → Rewritten

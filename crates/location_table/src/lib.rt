@@ -2,12 +2,11 @@
 // arrays to the function of memtable that has its name.
 ghost use mathlib.Core.Path.{_≡_};
 ghost use Rattle.location_table.specs.Private.{rowsUsed};
-ghost use Rattle.location_table.specs.Values.{rewriteValue, rowsValue, fetchValue, answerOf, fetchedOf};
+ghost use Rattle.location_table.specs.Values.{inReach, rewriteValue, rowsValue, fetchValue, answerOf, fetchedOf};
 use location_rules::Fetched;
 use location_rules::Gate;
 use location_rules::Rewritten;
 use location_rules::Table;
-use location_rules::in_reach;
 use location_rules::no_run;
 use location_rules::unchanged;
 use pipe_log::Location;
@@ -54,6 +53,16 @@ pub fn fetch_entry_indexes_before(
     let t = rows;
     let r = memtable::fetch_entry_indexes_before(&t[..n], table, gate);
     fetched(len, r)
+}
+
+// Whether neither n rows nor m others are more than 64.
+fn in_reach(n: usize, m: usize) -> bool
+    ensures { λ r. ⌜ r ≡ inReach n m ⌝ }
+{
+    if 64 < n {
+        return false;
+    }
+    m <= 64
 }
 
 // How many rows are lent: none where there are more than 64 of these or of the others.

@@ -1,8 +1,7 @@
 -- `location_rows::fetch` meets its contract: a law for each way out.
 -- Assumes nothing.
-use mathlib.Core.Path.{sym, _∙_}
 use native.Mathlib.Nat.{le-refl}
-use Rattle.location_rows.proofs.Fetches.{fetch-broken, fetch-many, fetch-run}
+use Rattle.location_rows.proofs.Fetches.{fetch-broken, fetch-run}
 use Rattle.location_rows.proofs.Surveys.{count-within}
 use borrow.Author.Tests.{not-true, not-false}
 use borrow.Author.Needs.{needs}
@@ -18,23 +17,14 @@ run-from-requires c κs = search needs
 returns : tie.Need-returns
 returns c = fetch-broken _ _ _ (c .before .before .is-well-formed .ensures) (not-true _ (c .before .if1 .taken)) (c .run-from .ensures)
 
-in-reach-requires : tie.Need-in-reach-requires
-in-reach-requires c κs = search needs
-
-no-run-requires : tie.Need-no-run-requires
-no-run-requires c κs = search needs
-
-returns-2 : tie.Need-returns-2
-returns-2 c = c .no-run .ensures ∙ fetch-many _ _ _ (c .before .before .before .before .is-well-formed .ensures) (not-false _ (c .before .before .before .if1 .left)) (sym (c .before .before .in-reach .ensures) ∙ not-true _ (c .before .if2 .taken))
-
 scan-requires : tie.Need-scan-requires
-scan-requires c κs = (count-within _ _ (c .before .before .before .is-well-formed .ensures) (not-false _ (c .before .before .if1 .left)), le-refl _)
+scan-requires c κs = (count-within _ _ (c .before .is-well-formed .ensures) (not-false _ (c .if1 .left)), le-refl _)
 
 run-from-requires-2 : tie.Need-run-from-requires-2
 run-from-requires-2 c κs = search needs
 
-returns-3 : tie.Need-returns-3
-returns-3 c = fetch-run _ _ _ (c .before .before .before .before .before .is-well-formed .ensures) (not-false _ (c .before .before .before .before .if1 .left)) (sym (c .before .before .before .in-reach .ensures) ∙ not-false _ (c .before .before .if2 .left)) (c .before .scan .ensures) (c .run-from2 .ensures)
+returns-2 : tie.Need-returns-2
+returns-2 c = fetch-run _ _ _ (c .before .before .before .is-well-formed .ensures) (not-false _ (c .before .before .if1 .left)) (c .before .scan .ensures) (c .run-from2 .ensures)
 
 pub fetch-spec : {M : Type 1} → statement M
 fetch-spec =
@@ -43,9 +33,6 @@ fetch-spec =
     is-well-formed-requires
     run-from-requires
     returns
-    in-reach-requires
-    no-run-requires
-    returns-2
     scan-requires
     run-from-requires-2
-    returns-3)
+    returns-2)

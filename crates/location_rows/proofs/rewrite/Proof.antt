@@ -25,26 +25,23 @@ scan-requires c κs = over-rows _ _ _ _ _ (c .before .before .overlap-of .ensure
 decide-requires : tie.Need-decide-requires
 decide-requires c κs = search needs
 
-limit-requires : tie.Need-limit-requires
-limit-requires c κs = search needs
-
 mul-replace : tie.Need-mul-replace
-mul-replace c = omega (arith, c .before .before .before .before .before .before .before .before .before .before .before .before .before .good .0 .0, replace-room (c .before .before .before .before .before .before .before .before .before .before .before .before .before .args .table .now) _ (c .before .before .before .before .before .before .before .before .before .before .before .before .before .args .incoming .now) _ (c .before .before .before .before .before .before .before .overlap-of .ensures) _ _ _ _ (c .before .before .before .before .scan .ensures) (c .before .before .before .decide .ensures) (c .before .before .limit .ensures) .0)
+mul-replace c = omega (arith, c .before .before .before .before .before .before .before .before .before .before .before .before .good .0 .0, replace-room (c .before .before .before .before .before .before .before .before .before .before .before .before .args .table .now) _ (c .before .before .before .before .before .before .before .before .before .before .before .before .args .incoming .now) _ (c .before .before .before .before .before .before .overlap-of .ensures) _ _ _ _ (c .before .before .before .scan .ensures) (c .before .before .decide .ensures) .0)
 
 mul-replace-2 : tie.Need-mul-replace-2
-mul-replace-2 c = omega (arith, c .before .before .before .before .before .before .before .before .before .before .before .before .before .before .good .1 .1 .1 .0 .0, replace-room (c .before .before .before .before .before .before .before .before .before .before .before .before .before .before .args .table .now) _ (c .before .before .before .before .before .before .before .before .before .before .before .before .before .before .args .incoming .now) _ (c .before .before .before .before .before .before .before .before .overlap-of .ensures) _ _ _ _ (c .before .before .before .before .before .scan .ensures) (c .before .before .before .before .decide .ensures) (c .before .before .before .limit .ensures) .1)
+mul-replace-2 c = omega (arith, c .before .before .before .before .before .before .before .before .before .before .before .before .before .good .1 .1 .1 .0 .0, replace-room (c .before .before .before .before .before .before .before .before .before .before .before .before .before .args .table .now) _ (c .before .before .before .before .before .before .before .before .before .before .before .before .before .args .incoming .now) _ (c .before .before .before .before .before .before .before .overlap-of .ensures) _ _ _ _ (c .before .before .before .before .scan .ensures) (c .before .before .before .decide .ensures) .1)
 
 mul-replace-3 : tie.Need-mul-replace-3
-mul-replace-3 c = omega (arith, c .before .before .before .before .before .before .before .before .before .before .before .before .before .before .before .good .0 .0, replace-room (c .before .before .before .before .before .before .before .before .before .before .before .before .before .before .before .args .table .now) _ (c .before .before .before .before .before .before .before .before .before .before .before .before .before .before .before .args .incoming .now) _ (c .before .before .before .before .before .before .before .before .before .overlap-of .ensures) _ _ _ _ (c .before .before .before .before .before .before .scan .ensures) (c .before .before .before .before .before .decide .ensures) (c .before .before .before .before .limit .ensures) .0)
+mul-replace-3 c = omega (arith, c .before .before .before .before .before .before .before .before .before .before .before .before .before .before .good .0 .0, replace-room (c .before .before .before .before .before .before .before .before .before .before .before .before .before .before .args .table .now) _ (c .before .before .before .before .before .before .before .before .before .before .before .before .before .before .args .incoming .now) _ (c .before .before .before .before .before .before .before .before .overlap-of .ensures) _ _ _ _ (c .before .before .before .before .before .scan .ensures) (c .before .before .before .before .decide .ensures) .0)
 
 replace-requires : tie.Need-replace-requires
-replace-requires c κs = replace-room (c .before .before .before .before .before .before .before .before .before .before .before .before .before .before .before .args .table .now) _ (c .before .before .before .before .before .before .before .before .before .before .before .before .before .before .before .args .incoming .now) _ (c .before .before .before .before .before .before .before .before .before .overlap-of .ensures) _ _ _ _ (c .before .before .before .before .before .before .scan .ensures) (c .before .before .before .before .before .decide .ensures) (c .before .before .before .before .limit .ensures)
+replace-requires c κs = replace-room (c .before .before .before .before .before .before .before .before .before .before .before .before .before .before .args .table .now) _ (c .before .before .before .before .before .before .before .before .before .before .before .before .before .before .args .incoming .now) _ (c .before .before .before .before .before .before .before .before .overlap-of .ensures) _ _ _ _ (c .before .before .before .before .before .scan .ensures) (c .before .before .before .before .decide .ensures)
 
 same-length : tie.Need-same-length
 same-length c = search needs
 
 returns : tie.Need-returns
-returns c = rewritten _ _ _ _ (c .before .before .before .before .before .before .before .before .before .before .before .before .overlap-of .ensures) _ _ _ (c .before .before .before .before .before .before .before .before .before .before .before .stop-of .result) (c .before .before .before .before .before .before .before .before .before .scan .ensures) (c .before .before .before .before .before .before .before .before .decide .ensures) (c .before .before .before .before .before .before .before .limit .ensures) (c .before .before .before .before .before .before .before .before .before .before .before .before .before .before .is-well-formed .ensures) (c .before .before .before .before .before .before .before .before .before .before .before .before .before .is-ready .ensures) (c .before .before .before .before .before .before .before .before .before .before .before .stop-of .ensures) (c .before .before .replace .ensures)
+returns c = rewritten _ _ _ _ (c .before .before .before .before .before .before .before .before .before .before .before .overlap-of .ensures) _ _ _ (c .before .before .before .before .before .before .before .before .before .before .stop-of .result) (c .before .before .before .before .before .before .before .before .scan .ensures) (c .before .before .before .before .before .before .before .decide .ensures) (c .before .before .before .before .before .before .before .before .before .before .before .before .before .is-well-formed .ensures) (c .before .before .before .before .before .before .before .before .before .before .before .before .is-ready .ensures) (c .before .before .before .before .before .before .before .before .before .before .stop-of .ensures) (c .before .before .replace .ensures)
 
 pub rewrite-spec : {M : Type 1} → statement M
 rewrite-spec =
@@ -56,7 +53,6 @@ rewrite-spec =
     stop-of-requires
     scan-requires
     decide-requires
-    limit-requires
     mul-replace
     mul-replace-2
     mul-replace-3

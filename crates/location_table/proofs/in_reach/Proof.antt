@@ -1,8 +1,8 @@
--- `location_rules::in_reach` meets its contract: a law for each way out.
+-- `location_table::in_reach` meets its contract: a law for each way out.
 -- Assumes nothing.
-use Rattle.location_rules.proofs.Forming.{too-many, others-reach}
-use Rattle.location_rules.proofs.in_reach.Statement.{statement}
-use Rattle.location_rules.proofs.in_reach.Tie as tie
+use Rattle.location_table.proofs.Parts.{too-many, others-reach}
+use Rattle.location_table.proofs.in_reach.Statement.{statement}
+use Rattle.location_table.proofs.in_reach.Tie as tie
 
 returns : tie.Need-returns
 returns c = too-many _ (c .before .args .m) (c .if1 .taken)
