@@ -36,7 +36,7 @@
  *    3 offset above length                         18 fewer bytes lent than the header's length
  *    4 offset below 16                             19 compressed
  *    5 body, or non-empty block, of 4 bytes or     20 entry total differs from the block's content, or block length from the row's
- *      fewer                                       21 what is lent is too short for the result, or more than 64 location rows;
+ *      fewer                                       21 what is lent is too short for the result;
  *    6 checksum wrong                                 after every other check
  *    7 bytes end in or before a number or field,   22 entry total above 2,147,483,647, or body above 4,294,967,295 bytes
  *      or a tenth byte is above 1                  23 a put key begins with "__"
@@ -74,7 +74,6 @@ extern "C" {
 #define RAFT_LOG_LOCATION_WORDS 6
 #define RAFT_LOG_ITEMS_MAX 256
 #define RAFT_LOG_ENTRIES_MAX 1024
-#define RAFT_LOG_LOCATIONS_MAX 64
 
 /* The CRC-32 of IEEE 802.3. */
 uint32_t raft_log_crc32(const uint8_t *data, size_t data_len);
@@ -125,13 +124,12 @@ uint32_t raft_log_entry_view(const uint64_t row[6], const uint8_t *append, size_
 uint32_t raft_log_status(const uint64_t row[7], const uint8_t *store, size_t store_len, uint64_t answer[2]);
 
 /* Replaces rows of a location table by incoming ones. answer: rows replaced, rewritten count (after a refusal 0 and the old count).
- * `gate` counts where with_gate. 26, 27, 24, 25, 21 (more than 64 rows in the table or incoming). A row whose queue is above 1 is a 26 in the
- * table and a 27 among the incoming ones. */
+ * `gate` counts where with_gate. 26, 27, 24, 25. A row whose queue is above 1 is a 26 in the table and a 27 among the incoming ones. */
 uint32_t raft_log_rewrite(uint64_t *table, size_t table_words, uint64_t first_index, uint64_t rewritten, const uint64_t *incoming,
                           size_t incoming_words, uint64_t incoming_first, bool with_gate, uint64_t gate, uint64_t answer[2]);
 
 /* The longest run of rows from the rewritten count on whose file number is at most the gate. answer: place, length. An empty
- * run has the rewritten count as its place. 26, 21. */
+ * run has the rewritten count as its place. 26. */
 uint32_t raft_log_fetch(const uint64_t *table, size_t table_words, uint64_t first_index, uint64_t rewritten, uint64_t gate,
                         uint64_t answer[2]);
 

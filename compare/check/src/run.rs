@@ -50,8 +50,11 @@ impl Plan {
         make::short::len().min(self.cases / 2)
     }
 
-    /// The case of a number: a short input, or a random one with a stream of its own.
+    /// The case of a number: a short input, or a random one with a stream of its own; the last ones are the long tables.
     pub fn case(&self, number: u64) -> Case {
+        if let Some(place) = (number + make::long::LEN).checked_sub(self.cases) {
+            return make::long::member(place);
+        }
         let short = self.short();
         let always = make::short::always();
         if number < short.min(always) {

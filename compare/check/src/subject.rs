@@ -154,23 +154,11 @@ fn status(item: &model::Item, store: &[u8]) -> Answer {
     Answer::Refused { number, item: 0 }
 }
 
-/// The most location rows that the library takes.
-const LOCATIONS: usize = 64;
-
 fn rewrite(table: &locations::Locations, gate: Option<u64>, first: u64, incoming: &[locations::Row]) -> Answer {
-    or_refused(locations::rewrite(table, gate, first, incoming), |(replaced, after)| {
-        if table.rows.len() > LOCATIONS || incoming.len() > LOCATIONS {
-            return Answer::Refused { number: 21, item: 0 };
-        }
-        Answer::Rewritten { replaced, count: after.count, rows: after.rows }
-    })
+    let rewritten = locations::rewrite(table, gate, first, incoming);
+    or_refused(rewritten, |(replaced, after)| Answer::Rewritten { replaced, count: after.count, rows: after.rows })
 }
 
 fn fetch(table: &locations::Locations, gate: u64) -> Answer {
-    or_refused(locations::fetch(table, gate), |(at, len)| {
-        if table.rows.len() > LOCATIONS {
-            return Answer::Refused { number: 21, item: 0 };
-        }
-        Answer::Run { at, len }
-    })
+    or_refused(locations::fetch(table, gate), |(at, len)| Answer::Run { at, len })
 }

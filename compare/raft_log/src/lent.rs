@@ -7,10 +7,9 @@ pub const ITEM_WORDS: usize = 7;
 pub const ENTRY_WORDS: usize = 3;
 pub const LOCATION_WORDS: usize = 6;
 
-/// The most items and entries of a body, and the most location rows of a call.
+/// The most items and entries of a body.
 pub const ITEMS_MAX: usize = 256;
 pub const ENTRIES_MAX: usize = 1024;
-pub const LOCATIONS_MAX: usize = 64;
 
 #[inline]
 pub fn crc32(data: &[u8]) -> u32 {

@@ -234,8 +234,7 @@ pub fn status(item: &Item, store: &[u8]) -> Result<Option<(u64, Status)>, Refusa
     })
 }
 
-/// A table of locations: consecutive indexes from `first_index` on, of which the first `rewritten` are in the rewrite queue. More than 64
-/// rows, of the table or incoming, are refused with [`Reason::OutputShort`].
+/// A table of locations: consecutive indexes from `first_index` on, of which the first `rewritten` are in the rewrite queue.
 #[derive(Clone, Debug, PartialEq, Eq)]
 pub struct Locations {
     pub first_index: u64,

@@ -198,7 +198,7 @@ reasons! {
     BatchShort = 18 "fewer bytes than the header's length"
     Compressed = 19 "a compressed batch"
     BlockDiffers = 20 "entry total differs from block content, or block length from a row's"
-    OutputShort = 21 "too little room for the result, or more than 64 location rows"
+    OutputShort = 21 "too little room for the result"
     OutputTooLong = 22 "entry total above 2,147,483,647, or body above 4,294,967,295 bytes"
     KeyInternal = 23 "a put key begins with the internal prefix"
     OverlapAfter = 24 "overlap begins after the rewritten count"

@@ -130,3 +130,12 @@ fn locations() {
     table.rewritten = 2;
     assert_eq!(number(table.fetch_entry_indexes_before(1)), (26, 0));
 }
+
+#[test]
+fn a_thousand_locations() {
+    let mut table = Locations { first_index: 1, rewritten: 0, rows: vec![row(Queue::Append, 1); 1000] };
+    assert_eq!(table.fetch_entry_indexes_before(1), Ok(0..1000));
+    let incoming = vec![row(Queue::Rewrite, 9); 1000];
+    assert_eq!(table.rewrite(&incoming, 1, Some(1)), Ok(1000));
+    assert_eq!((table.rewritten, table.rows), (1000, incoming));
+}
