@@ -8,3 +8,4 @@ pub mod Opened
 pub mod Through
 pub mod Theorems
 pub mod Determined
+pub mod OneReading

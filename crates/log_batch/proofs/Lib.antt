@@ -21,5 +21,6 @@ pub mod Again
 pub mod Marks
 pub mod Views
 pub mod Whole
+pub mod OneReading
 pub mod Theorems
 pub mod Determined
