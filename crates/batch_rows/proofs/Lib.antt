@@ -1,3 +1,4 @@
 pub mod RowsRead
 pub mod RowsWritten
+pub mod Theorems
 pub mod Determined

@@ -29,7 +29,7 @@ use Rattle.log_item.specs.declared.Form.the-variants.{Any, Plain}
 use Rattle.list_writer.specs.declared.Encoded.{Encoded}
 use Rattle.list_writer.specs.Bytes.{itemsBytes, listBytes, itemsOf, bodyBytes, footed}
 use Rattle.list_writer.specs.Refusing.{fine, itemsVerdict, listVerdict}
-use Rattle.list_writer.specs.Answers.{measuredOf, measureOf, measured, encoded, laid, encodedOf}
+use Rattle.list_writer.specs.Answers.{measuredOf, measureOf, measured, encoded, laid, encodedOf, MeasuredWritten}
 use Rattle.log_batch.specs.Reading.{accepted, rejected, Answer, readItems}
 use Rattle.log_batch.specs.Body.{readBody}
 use Rattle.log_batch.specs.declared.Wanted.the-variants.{Exactly}
@@ -57,9 +57,9 @@ use Rattle.log_batch.specs.Front.{blockBytes, bodyOffset, batchEncoded}
 use Rattle.log_batch.proofs.Planning.{planned, verdict-of, refused-length}
 use Rattle.log_batch.specs.Batch.{blockOf, bodyOf, readBatch}
 use Rattle.log_batch.specs.Examples.{AllRight, table}
-use Rattle.log_batch.specs.Written.{framed, frameOf, BatchWritten}
+use Rattle.log_batch.specs.Written.{framed, frameOf, BatchWritten, TableWritten}
 use Rattle.list_writer.specs.declared.Measured.{Measured}
-use Rattle.log_batch.proofs.Written.{list-sized, whole}
+use Rattle.log_batch.proofs.Written.{list-sized, own-sized, whole, body-stands}
 use Rattle.log_batch.proofs.Again.{content-size, block-again, body-again, content-again, front-again}
 use Rattle.log_batch.proofs.Whole.{body-read}
 
@@ -251,8 +251,8 @@ module _ (checked : Bool) (t : LogItemBatch) (s : List ℕ) (signature : ℕ) (o
 -- ---- whole batches written
 
 -- Where the whole-batch writer answers a length, the batch stands at the start of the buffer, and behind it what stood there before. Its content
--- stands after the header. Where the content is bytes, all below 256, the batch reads as its body does by itself, with the entry total
--- held to the content.
+-- stands after the header. Where the content is bytes, all below 256, the batch reads under any signature as its body does by itself,
+-- with the entry total held to the content.
 module _ (checked : Bool) (xs : List LogItem) (ns s : List ℕ) (signature : ℕ) {items : ℕ} {content out : List ℕ} {r : Encoded} {later : List ℕ}
     (w : BatchWritten (measureOf s checked xs ns) items content (bodyBytes s xs ns signature) out r later) (h : r .length ≡ 0 → ⊥) where
   abbrev body : List ℕ
@@ -264,12 +264,12 @@ module _ (checked : Bool) (xs : List LogItem) (ns s : List ℕ) (signature : ℕ
   pub content-stands : take (length content) (drop 16 later) ≡ content
   content-stands = rw batch-stands (content-again content body (drop (r .length) out))
 
-  pub written-read : Bytes content
-      → readBatch later signature
+  pub written-read : Bytes content → (b : ℕ)
+      → readBatch later b
       ≡ tableOf (record { at = bodyOffset content; len = length (bodyBytes s xs ns signature) })
       (record { at = 16; len = length (blockBytes content) })
-      (agreeing (Exactly (length content)) (readBody (bodyBytes s xs ns signature) signature))
-  written-read bytes =
+      (agreeing (Exactly (length content)) (readBody (bodyBytes s xs ns signature) b))
+  written-read bytes b =
       let t : List ℕ = drop (r .length) out in
       let k = whole (list-sized s checked xs ns signature) w h in
       let long : bodyOffset content + length body - bodyOffset content ≡ length body = omega arith in
@@ -277,7 +277,7 @@ module _ (checked : Bool) (xs : List LogItem) (ns s : List ℕ) (signature : ℕ
       let size : sealedLength (blockOf (frameOf content body) (framed content body ++ t)) ≡ length content =
       ap sealedLength (block-again content body t) ∙ content-size content in
       let front = front-again content body t (rw (k .size) at (k .few)) bytes in
-      ap (λ (l : List ℕ). readBatch l signature) batch-stands ∙ body-read (framed content body ++ t) signature front
+      ap (λ (l : List ℕ). readBatch l b) batch-stands ∙ body-read (framed content body ++ t) b front
       ∙ (rw (size, body-again content body t, long, block))
 
   -- Reading a written batch gives the list with its places worked out, its rows, and the content's length as the entry total. The numbers of
@@ -295,7 +295,7 @@ module _ (checked : Bool) (xs : List LogItem) (ns s : List ℕ) (signature : ℕ
         (accepted (bodyItems s xs ns) (bodyRows xs ns) (length content) (length (listBytes s xs ns)))
     batch-read-back store bytes key =
         let read = read-back s checked xs ns (length content) small fine-total store signature key in
-        written-read bytes ∙ (rw (read, eq-eqb (length content) (length content) refl))
+        written-read bytes signature ∙ (rw (read, eq-eqb (length content) (length content) refl))
 
     -- Each key and content has, in the body of the written batch, the bytes that it had.
     pub batch-kept : keysAndContents (bodyOf (frameOf content body) later) (bodyItems s xs ns) ≡ keysAndContents s xs
@@ -304,6 +304,41 @@ module _ (checked : Bool) (xs : List LogItem) (ns s : List ℕ) (signature : ℕ
         ap (λ (l : List ℕ). keysAndContents (bodyOf (frameOf content body) l) (bodyItems s xs ns)) batch-stands
         ∙ ap (λ (l : List ℕ). keysAndContents l (bodyItems s xs ns)) (body-again content body t)
         ∙ written-kept s checked xs ns (length content) small fine-total signature
+
+-- ---- a second signature
+
+-- What any writer writes of a list, where its measure is the list's own unless it is refused: read under a second signature, it is refused
+-- with 6 exactly when the two signatures, none being 0, differ. The numbers of the items are below 2^64, store and content are bytes.
+module _ (s : List ℕ) (checked : Bool) (xs : List LogItem) (ns : List ℕ) (small : AllSmall xs) (store : Bytes s) (signature b : ℕ) (key : signature < 2 ^ 32)
+    {m : Measured} (own : (m .length ≡ 0 → ⊥) → m ≡ measureOf s checked xs ns) {out : List ℕ} {r : Encoded} {later : List ℕ} (h : r .length ≡ 0 → ⊥) where
+  -- A body, at the place where it was written.
+  pub body-under-another : (at : ℕ) → MeasuredWritten m (bodyBytes s xs ns signature) out at r later
+      → (readBody (take (r .length) (drop at later)) b ≡ rejected 6 0) ↔ (signature ≡ b → ⊥)
+  body-under-another at w =
+      let k = body-stands (own-sized s checked xs ns signature own) w h in
+      let fine-list = verdict-of s checked xs ns (rw (own (k .0)) at (k .0)) in
+      rw (k .1) (other-signature s checked xs ns _ small fine-list store signature b key)
+
+  -- A whole batch, at the start of the buffer.
+  pub batch-under-another : {items : ℕ} {content : List ℕ} → Bytes content → BatchWritten m items content (bodyBytes s xs ns signature) out r later
+      → (readBatch later b ≡ emptyTable 6 0) ↔ (signature ≡ b → ⊥)
+  unfolding tableOf
+  batch-under-another {items} {content} bytes v =
+      let w = rw (own (planned m items content (length out) (v .answer) h .some)) at v in
+      let total = fine-total checked xs ns s signature w h small in
+      let other = other-signature s checked xs ns (length content) small total store signature b key in
+      let read = written-read checked xs ns s signature w h bytes b in
+      let back = batch-read-back checked xs ns s signature w h small store bytes key in (
+        λ e same. let z : _≡_ {A = ℕ} 0 6 = ap (λ (t : LogItemBatch). t .refusal .number) (sym back ∙ ap (readBatch later) same ∙ e) in omega arith,
+        λ differ. read ∙ (rw (other .1 differ)),
+      )
+
+-- So of what LogBatch::encode and its unchecked form write of a table.
+pub batch-second-signature : (checked : Bool) (t : LogItemBatch) (s content : List ℕ) (signature : ℕ) (out : List ℕ) {r : Encoded} {later : List ℕ} → AllSmall (t .items)
+    → TableWritten checked t s content signature out r later → (r .length ≡ 0 → ⊥) → Bytes s → Bytes content → signature < 2 ^ 32
+    → (b : ℕ) → (readBatch later b ≡ emptyTable 6 0) ↔ (signature ≡ b → ⊥)
+batch-second-signature checked t s content signature out small w h store bytes key b =
+    batch-under-another s checked (listed t) (tableLengths t) (table-small t small) store signature b key (λ _. refl) h bytes w
 
 -- ---- refused, and nothing to write
 

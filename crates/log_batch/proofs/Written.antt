@@ -2,12 +2,13 @@
 -- Assumes nothing.
 use Prim.Native.Nat.{ℕ, _+_, _-_, _^_, _≤_, _<_}
 use mathlib.Core.Path.{_≡_, refl, sym, ap, _∙_}
-use mathlib.Core.Bool.{Bool}
-use mathlib.Core.List.{List, _++_}
+use mathlib.Core.Bool.{Bool, true, false}
+use mathlib.Core.List.{List, _++_, append-assoc}
 use native.Mathlib.Omega.{arith}
 use lib.ListN.{length, take, drop, length-append}
-use lib.Seq.{sets-eq}
-use borrow.Author.Tests.{ne-eqb, le-leb}
+use lib.Dec.{eqb, leb}
+use lib.Seq.{sets-eq, length-take-le, take-at, drop-at}
+use borrow.Author.Tests.{ne-eqb, le-leb, eqb-true, eqb-false, leb-true}
 use Rattle.log_item.specs.declared.LogItem.{LogItem}
 use Rattle.log_item.specs.Private.{Stored}
 use Rattle.log_item.proofs.Stores.{stored-then, stored-length, stored-same}
@@ -29,6 +30,16 @@ pub record Sized (m : Measured) (body : List ℕ) : Type 0 where
 pub list-sized : (s : List ℕ) (checked : Bool) (xs : List LogItem) (ns : List ℕ) (signature : ℕ) → Sized (measureOf s checked xs ns) (bodyBytes s xs ns signature)
 list-sized s checked xs ns signature =
     record { small = body-small s checked xs ns refl; long = λ h. body-length signature (accepted s checked xs ns _ refl h) }
+
+-- So are those of a list, for any measure that is the list's own where it has a length.
+pub own-sized : {m : Measured} (s : List ℕ) (checked : Bool) (xs : List LogItem) (ns : List ℕ) (signature : ℕ)
+    → ((m .length ≡ 0 → ⊥) → m ≡ measureOf s checked xs ns) → Sized m (bodyBytes s xs ns signature)
+own-sized {m} s checked xs ns signature own =
+    record { small = go (eqb (m .length) 0) refl; long = λ h. body-length signature (accepted s checked xs ns m (own h) h) }
+  where
+    go : (b : Bool) → eqb (m .length) 0 ≡ b → m .length ≤ 4294967295
+    go true e = omega (arith, eqb-true (m .length) 0 e)
+    go false e = body-small s checked xs ns (own (eqb-false (m .length) 0 e))
 
 module _ {m k : Measured} (same : m ≡ k) {body : List ℕ} (sized : Sized k body) {items : ℕ} {content out : List ℕ} {r : Encoded} {mid : List ℕ}
     (begun : FrontWritten m items content out r mid) where
@@ -92,3 +103,25 @@ whole {m} {items} {content} {body} {out} {r} {later} sized w h =
       few = omega (arith, k .size, sized .small, block-small content, k .few);
       bytes = w .written ∙ (rw (ne-eqb (r .length) 0 h, le-leb (0 + length batch) (length out) fit)) ∙ ap (λ (n : ℕ). batch ++ drop n out) same;
     }
+
+-- What a body's contract that is met tells, where the answer has a length: the body has a measure, and stands at the place.
+pub body-stands : {m : Measured} {body out : List ℕ} {at : ℕ} {r : Encoded} {later : List ℕ} → Sized m body → MeasuredWritten m body out at r later
+    → (r .length ≡ 0 → ⊥) → (m .length ≡ 0 → ⊥) × (take (r .length) (drop at later) ≡ body)
+unfolding encodedOf laid
+body-stands {m} {body} {out} {at} {r} {later} sized w h = go (eqb (m .length) 0) (leb (at + m .length) (length out)) refl refl
+  where
+    none : (a b : ℕ) → r ≡ encoded a b 0 → (m .length ≡ 0 → ⊥) × (take (r .length) (drop at later) ≡ body)
+    none a b e = absurd (h (ap (λ (x : Encoded). x .length) e))
+
+    go : (b c : Bool) → eqb (m .length) 0 ≡ b → leb (at + m .length) (length out) ≡ c → (m .length ≡ 0 → ⊥) × (take (r .length) (drop at later) ≡ body)
+    go true c e f = none (m .number) (m .item) (w .answer ∙ (rw e))
+    go false false e f = none 21 0 (w .answer ∙ (rw (e, f)))
+    go false true e f =
+        let some = eqb-false (m .length) 0 e in
+        let long : length body ≡ m .length = sized .long some in
+        let answer : r ≡ encoded 0 0 (m .length) = w .answer ∙ (rw (e, f)) in
+        let fit : at + length body ≤ length out = omega (arith, leb-true (at + m .length) (length out) f) in
+        let rest : List ℕ = drop (at + length body) out in
+        let put : later ≡ take at out ++ (body ++ rest) = w .written ∙ (rw (answer, e, le-leb (at + length body) (length out) fit)) ∙ append-assoc (take at out) body rest in
+        let front : length (take at out) ≡ at = length-take-le at out (omega arith) in
+        (some, rw (put, drop-at (take at out) (body ++ rest) at front) (take-at body rest (r .length) (long ∙ sym (ap (λ (x : Encoded). x .length) answer))))
