@@ -2,7 +2,8 @@
 import struct
 
 from model import BLANK_ROW, Reader, Refused, Table, crc, fetch, little, next_row, read_batch, read_body, read_header, read_item
-from model import read_items, read_number, rewrite, spell, status, step, view, write_batch, write_body, write_item
+from model import read_items, read_number, rewrite, rows_of_first, spell, status, step, step_from, view, write_batch, write_body
+from model import write_item
 
 
 def data(word):
@@ -292,8 +293,7 @@ def do_memtable(name, *words):
     return out
 
 
-def step_words(t, k):
-    got = step(t, k)
+def got_words(got):
     if got is None:
         return ["end"]
     item, rows = got
@@ -301,28 +301,48 @@ def step_words(t, k):
 
 
 def do_open(name, signature, count, b):
+    """What each step answers, and what call number a third of that many does."""
     count = int(count, 16)
     try:
         t = read_body(data(b), int(signature, 16))
+        words = [got_words(step(t, k)) for k in range(count)]
     except Refused as why:
-        return [line("open", name, *["refused", why.number, why.item] * count)]
-    return [line("open", name, *[w for k in range(count) for w in step_words(t, k)])]
+        words = [["refused", why.number, why.item]] * count
+    return [line("open", name, *sum(words, [])), line("nth", name, *words[count // 3])]
 
 
-def do_tail(name, *words):
-    where, b = tuple(int(x, 16) for x in words[:4]), data(words[4])
-    try:
-        got = next_row(b, *where)
-    except Refused as why:
-        return [line("tail", name, "refused", why.number, *where)]
-    if got is None:
-        return [line("tail", name, ".", *where)]
-    return [line("tail", name, ":", *got[0], *got[1])]
+def do_jump(name, *words):
+    *place, count, calls = [int(x, 16) for x in words[:6]]
+    out = []
+    for _ in range(calls):
+        try:
+            got, place = step_from(data(words[6]), *place, count)
+            out += got_words(got)
+        except Refused as why:
+            out += ["refused", why.number, place[3]]
+    return [line("jump", name, *out, *place)]
+
+
+def do_tail(name, b, other):
+    item, rows = rows_of_first(data(b))
+    out = item_words(item)
+    for _ in range(item[2] + 1):
+        try:
+            got = next_row(data(other), *rows)
+        except Refused as why:
+            out += ["refused", why.number]
+            continue
+        if got is None:
+            out.append(".")
+        else:
+            row, rows = got
+            out += [":", *row]
+    return [line("tail", name, *out)]
 
 
 DO = {
     "crc": do_crc, "number": do_number, "read": do_read, "big": do_big, "little": do_little, "header": do_header,
     "items": do_items, "footed": do_footed, "plain": do_plain, "go": do_go, "whole": do_whole,
     "view": do_view, "status": do_status, "encode": do_encode, "alone": do_alone, "memtable": do_memtable, "open": do_open,
-    "tail": do_tail,
+    "jump": do_jump, "tail": do_tail,
 }

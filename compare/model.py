@@ -318,6 +318,30 @@ def step(t, k):
     return t.items[k], t.entries[sum(rows[:k]):sum(rows)]
 
 
+def step_from(b, at, total, used, item, count):
+    """What a step hands out from a place of a body on, with the total and the entries before it, at that item of so many; and where it leads."""
+    if item >= count:
+        return None, (at, total, used, item)
+    r, t = Reader(b[:-4]), Table()
+    r.at, t.total = at, total
+    t.entries = [BLANK_ROW] * min(used, 1025)
+    got = read_item(r, t)
+    rows = t.entries[used:]
+    return (got, rows), (r.at, t.total, used + len(rows), item + 1)
+
+
+def rows_of_first(b):
+    """The first item of an unsigned body, which is one of entries, and where its rows stand: place, total, index, how many."""
+    item = read_body(b, 0).items[0]
+    r = Reader(b)
+    for _ in range(2):
+        r.number()
+    r.byte()
+    for _ in range(2 if item[2] > 0 else 1):
+        r.number()
+    return item, (r.at, 0, item[3], item[2])
+
+
 def next_row(b, at, total, index, left):
     """The next of `left` rows, from the tail at a place of a body on, and what is then left; or none."""
     if left == 0:

@@ -7,10 +7,20 @@ use Rattle.one_answer.specs.ByHand.{OneAnswerByHand}
 use Rattle.item_reader.specs.Reader.{opened, stepFrom, afterCall}
 use Rattle.item_reader.proofs.ItemReader.open as open-fn
 use Rattle.item_reader.proofs.ItemReader.next as next-fn
+use Rattle.item_reader.proofs.Cursor.start.Kinds as start-kinds
+use Rattle.item_reader.proofs.Cursor.start.Reads as start-reads
+use Rattle.item_reader.proofs.Cursor.step.Kinds as step-kinds
+use Rattle.item_reader.proofs.Cursor.step.Reads as step-reads
 use Rattle.item_reader.proofs.nth.Kinds as nth-kinds
 use Rattle.item_reader.proofs.nth.Reads as nth-reads
 use Rattle.item_reader.proofs.next_row.Kinds as next-row-kinds
 use Rattle.item_reader.proofs.next_row.Reads as next-row-reads
+
+pub start : OneAnswer 1 start-kinds.ps start-kinds.r start-reads.Post (λ κs x y s t. x ≡ y)
+start κs a x y s t p q = p ∙ sym q
+
+pub step : OneAnswer 1 step-kinds.ps step-kinds.r step-reads.Post (λ κs x y s t. x ≡ y)
+step κs a x y s t p q = p ∙ sym q
 
 pub opening : OneAnswerByHand open-fn.ended (λ M 𝓤 H. open-fn.clauses 𝓤 H) (λ κs x y s t. x ≡ y)
 opening = record {

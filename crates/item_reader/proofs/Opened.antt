@@ -18,7 +18,7 @@ use Rattle.log_batch.specs.Body.{readBody}
 use Rattle.log_batch.proofs.Accepts.{of-accepted}
 use Rattle.log_batch.proofs.Bodies.{parts}
 use Rattle.log_batch.proofs.Listing.{sound-items}
-use Rattle.item_reader.specs.Reader.{placeOf, afterCount, openingOf}
+use Rattle.item_reader.specs.Cursor.{placeOf, afterCount, atFirst, started}
 
 module _ {xs : List LogItem} {rows : List EntryIndex} {u q : ℕ} where
   -- The items that are read stand after the count, and are as many as it says.
@@ -44,11 +44,11 @@ module _ {xs : List LogItem} {rows : List EntryIndex} {u q : ℕ} where
 
 -- What opening finds of a body that is accepted, and of one that is refused.
 pub opening-good : (body : List ℕ) (signature : ℕ) {xs : List LogItem} {rows : List EntryIndex} {u q : ℕ} → readBody body signature ≡ accepted xs rows u q
-    → openingOf body signature ≡ record { at = afterCount (sealedPart body); count = length xs; refusal = record { number = 0; item = 0 } }
-unfolding openingOf
+    → started body signature ≡ atFirst (afterCount (sealedPart body)) (length xs) 0 0
+unfolding started
 opening-good body signature e = rw e
 
 pub opening-bad : (body : List ℕ) (signature : ℕ) {n i : ℕ} → readBody body signature ≡ rejected n i
-    → openingOf body signature ≡ record { at = 0; count = 0; refusal = record { number = n; item = i } }
-unfolding openingOf
+    → started body signature ≡ atFirst 0 0 n i
+unfolding started
 opening-bad body signature e = rw e

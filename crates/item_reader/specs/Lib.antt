@@ -1,4 +1,5 @@
 pub mod Rows
 pub mod Steps
+pub mod Cursor
 pub mod Reader
 pub mod Stepping

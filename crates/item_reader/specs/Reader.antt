@@ -2,52 +2,31 @@
 -- Assumes nothing.
 use Prim.Native.Nat.{ℕ, zero, suc}
 use mathlib.Core.List.{List}
-use lib.ListN.{length}
 use denote.Ref.{RefT, now}
-use Rattle.log_item.specs.Got.{Got, got, refused}
-use Rattle.log_item.specs.Pieces.{number}
-use Rattle.log_item.specs.declared.Form.the-variants.{Any}
-use Rattle.log_batch.specs.Reading.{Answer, accepted, rejected}
-use Rattle.log_batch.specs.Seal.{sealedPart}
-use Rattle.log_batch.specs.Body.{readBody}
+use Rattle.item_reader.specs.declared.Cursor.{Cursor}
 use Rattle.item_reader.specs.declared.ItemReader.{ItemReader}
 use Rattle.item_reader.specs.declared.Next.{Next}
-use Rattle.item_reader.specs.declared.Opening.{Opening}
 use Rattle.item_reader.specs.declared.Step.{Step}
-use Rattle.item_reader.specs.Steps.{stepOf}
+use Rattle.item_reader.specs.Cursor.{started, stepAt, leads}
 
--- the place after a number, 0 where there is none
-abbrev pub placeOf : Got ℕ → ℕ
-placeOf (got n q) = q
-placeOf (refused r) = 0
+-- a reader of a body, where a cursor stands, and the cursor where a reader stands
+abbrev pub readerAt : RefT (List ℕ) → Cursor → ItemReader
+readerAt body c = record { body = body; at = c .at; total = c .total; used = c .used; item = c .item; count = c .count; refusal = c .refusal }
 
--- the first item stands after the item count
-unfoldable pub afterCount : List ℕ → ℕ
-afterCount s = placeOf (number Any s 0)
-
--- what the plain reading of a body finds: its items from the place p on, or its refusal
-abbrev pub openingBy : ℕ → Answer → Opening
-openingBy p (accepted xs rows u q) = record { at = p; count = length xs; refusal = record { number = 0; item = 0 } }
-openingBy p (rejected r i) = record { at = 0; count = 0; refusal = record { number = r; item = i } }
-
-unfoldable pub openingOf : List ℕ → ℕ → Opening
-openingOf body signature = openingBy (afterCount (sealedPart body)) (readBody body signature)
-
--- a reader that stands at the first item
-abbrev pub atFirst : RefT (List ℕ) → Opening → ItemReader
-atFirst body o = record { body = body; at = o .at; total = 0; used = 0; item = 0; count = o .count; refusal = o .refusal }
+abbrev pub cursorOf : ItemReader → Cursor
+cursorOf r = record { at = r .at; total = r .total; used = r .used; item = r .item; count = r .count; refusal = r .refusal }
 
 -- a reader opened on a body under a signature
 abbrev pub opened : RefT (List ℕ) → ℕ → ItemReader
-opened body signature = atFirst body (openingOf (now body) signature)
+opened body signature = readerAt body (started (now body) signature)
 
 -- the next step of a reader
 abbrev pub stepFrom : ItemReader → Step
-stepFrom r = stepOf (now (r .body)) (r .at) (r .total) (r .used) (r .item) (r .count) (r .refusal)
+stepFrom r = stepAt (now (r .body)) (cursorOf r)
 
 -- the reader where a step leads
 abbrev pub moved : ItemReader → Step → ItemReader
-moved r s = record { body = r .body; at = s .at; total = s .total; used = s .used; item = s .item; count = r .count; refusal = r .refusal }
+moved r s = readerAt (r .body) (leads (cursorOf r) s)
 
 abbrev pub afterCall : ItemReader → ItemReader
 afterCall r = moved r (stepFrom r)

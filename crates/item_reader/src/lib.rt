@@ -3,12 +3,14 @@
 //
 // Opening does the whole reading; then `next` hands out the same items in the same order and an end, or none and the same refusal. The
 // rows of an item of entries are read in the same way, one at a time, by `next_row`. The borrow checker covers no function over the reader
-// itself, so those are few and thin, and the work is done on the slice and numbers.
+// itself, so those are few and thin, and the work is done on the slice and numbers. A cursor is the reader without the body: whoever has
+// the body beside it steps by value, and is covered.
 ghost use mathlib.Core.Path.{_≡_};
 ghost use Rattle.log_batch.specs.Seal.{sealedPart};
 ghost use Rattle.item_reader.specs.Rows.{nextRow};
 ghost use Rattle.item_reader.specs.Steps.{handedOut, stayed, stepOf};
-ghost use Rattle.item_reader.specs.Reader.{afterCount, openingOf, opened, stepFrom, afterCall, nthOf};
+ghost use Rattle.item_reader.specs.Cursor.{afterCount, started, stepped};
+ghost use Rattle.item_reader.specs.Reader.{opened, stepFrom, afterCall, nthOf};
 use log_batch::BodyCheck;
 use log_batch::sealed_len;
 use log_item::EntryIndex;
@@ -21,12 +23,12 @@ use log_item::TailRead;
 use refusal::Refusal;
 
 // Where the rows of an item stand that are still to be read: the place of the next tail, the total before it, the index of its entry,
-// and how many there are. Where none is left the index names no entry: it is the one after the last, which may have come round to 0.
+// and how many there are. No caller sees them, since where none is left the index is the one after the last, which is never shown.
 pub struct EntryRows {
-    pub at: usize,
-    pub total: u32,
-    pub index: u64,
-    pub left: usize,
+    at: usize,
+    total: u32,
+    index: u64,
+    left: usize,
 }
 
 // A row, and the rows after it; or that there is none left; or why its tail is refused.
@@ -43,9 +45,8 @@ pub enum Next {
     Refused(Refusal),
 }
 
-// A reader of the body that it was opened on.
-pub struct ItemReader<'a> {
-    pub body: &'a [u8],
+// A place to step from in a body that is lent at each step. One that was started on a body stands at an item of it, or at its end.
+pub struct Cursor {
     // the place of the next item, and the total and the number of entries before it
     pub at: usize,
     pub total: u32,
@@ -57,14 +58,24 @@ pub struct ItemReader<'a> {
     pub refusal: Refusal,
 }
 
-// What opening finds out: where the first item stands, how many there are, and the refusal.
-struct Opening {
-    at: usize,
-    count: usize,
-    refusal: Refusal,
+// Where a cursor stands after a step, and what the step answers.
+pub struct Stepped {
+    pub cursor: Cursor,
+    pub answer: Next,
 }
 
-// Where a reader stands after a step, and what the step answers.
+// A reader of the body that it was opened on: the body, and what a cursor holds.
+pub struct ItemReader<'a> {
+    pub body: &'a [u8],
+    pub at: usize,
+    pub total: u32,
+    pub used: usize,
+    pub item: usize,
+    pub count: usize,
+    pub refusal: Refusal,
+}
+
+// What a step changes, and what it answers.
 struct Step {
     at: usize,
     total: u32,
@@ -73,20 +84,88 @@ struct Step {
     answer: Next,
 }
 
+impl Cursor {
+    // A cursor at the first item of a body, which is read whole under the signature. It is always handed back: where the body is refused,
+    // so is each step.
+    pub fn start(body: &[u8], signature: u32) -> Cursor
+        ensures { λ r. ⌜ r ≡ started (now (body .entry)) signature ⌝ }
+    {
+        match log_batch::check(body, signature) {
+            BodyCheck::Accepted {
+                items,
+                entries: _,
+                total: _,
+                next: _,
+            } => {
+                let n = sealed_len(body.len());
+                Cursor {
+                    at: after_count(&body[..n]),
+                    total: 0,
+                    used: 0,
+                    item: 0,
+                    count: items,
+                    refusal: Refusal {
+                        number: refusal::NONE,
+                        item: 0,
+                    },
+                }
+            }
+            BodyCheck::Refused(why) => Cursor {
+                at: 0,
+                total: 0,
+                used: 0,
+                item: 0,
+                count: 0,
+                refusal: why,
+            },
+        }
+    }
+
+    // The next item, the end, or the body's refusal, and the cursor after it; after the end the end again. The body is the one that the
+    // cursor was started on; in another the items are those that stand there.
+    pub fn step(self, body: &[u8]) -> Stepped
+        ensures { λ r. ⌜ r ≡ stepped (now (body .entry)) self ⌝ }
+    {
+        let count = self.count;
+        let refusal = self.refusal;
+        let s = step_at(
+            body,
+            self.at,
+            self.total,
+            self.used,
+            self.item,
+            count,
+            refusal,
+        );
+        let answer = s.answer;
+        Stepped {
+            cursor: Cursor {
+                at: s.at,
+                total: s.total,
+                used: s.used,
+                item: s.item,
+                count,
+                refusal,
+            },
+            answer,
+        }
+    }
+}
+
 impl<'a> ItemReader<'a> {
     // A reader of a body under a signature. It is always handed back: where the body is refused, so is each step.
     pub fn open(body: &'a [u8], signature: u32) -> ItemReader<'a>
         ensures { λ r. ⌜ r ≡ opened (body .entry) signature ⌝ }
     {
-        let o = open_body(body, signature);
+        let c = Cursor::start(body, signature);
         ItemReader {
             body,
-            at: o.at,
-            total: 0,
-            used: 0,
-            item: 0,
-            count: o.count,
-            refusal: o.refusal,
+            at: c.at,
+            total: c.total,
+            used: c.used,
+            item: c.item,
+            count: c.count,
+            refusal: c.refusal,
         }
     }
 
@@ -111,8 +190,8 @@ impl<'a> ItemReader<'a> {
     }
 }
 
-// What call number k of `next`, counted from 0, answers on a reader opened on the body under the signature. It takes no reader, so that
-// whoever calls it needs no walk by hand. `next` is called at one place, so that it is compiled in line.
+// What call number k of `next`, counted from 0, answers on a reader opened on the body under the signature. It is for tests, which cannot
+// hold a reader where they are covered: each call opens the body and reads it whole. Whoever goes through a body has a cursor.
 pub fn nth(body: &[u8], signature: u32, k: usize) -> Next
     ensures { λ r. ⌜ r ≡ nthOf (opened (body .entry) signature) k ⌝ }
 {
@@ -155,35 +234,6 @@ pub fn next_row(body: &[u8], rows: EntryRows) -> RowRead
             },
         },
         TailRead::Refused(number) => RowRead::Refused(number),
-    }
-}
-
-// The place of the first item of a body, and the number of its items; or why the body is refused.
-fn open_body(body: &[u8], signature: u32) -> Opening
-    ensures { λ r. ⌜ r ≡ openingOf (now (body .entry)) signature ⌝ }
-{
-    match log_batch::check(body, signature) {
-        BodyCheck::Accepted {
-            items,
-            entries: _,
-            total: _,
-            next: _,
-        } => {
-            let n = sealed_len(body.len());
-            Opening {
-                at: after_count(&body[..n]),
-                count: items,
-                refusal: Refusal {
-                    number: refusal::NONE,
-                    item: 0,
-                },
-            }
-        }
-        BodyCheck::Refused(why) => Opening {
-            at: 0,
-            count: 0,
-            refusal: why,
-        },
     }
 }
 

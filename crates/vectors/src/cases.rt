@@ -25,7 +25,8 @@
 //                                                                 one before it left: rewrite GATE FIRST ROWS, the gate `-` for none,
 //                                                                 and fetch GATE
 //     open NAME SIGNATURE CALLS BYTES                             a body with its footer, stepped through by so many calls
-//     tail NAME AT TOTAL INDEX LEFT BYTES                         the next row of an item of such a body, from that place on
+//     jump NAME AT TOTAL USED ITEM COUNT CALLS BYTES              a cursor made of these numbers, stepped so many times in such a body
+//     tail NAME BYTES OTHER                                       the first item of such a body, its rows read in the other
 use crate::alone;
 use crate::bodies;
 use crate::headers;
@@ -73,6 +74,7 @@ fn case(line: &[u8]) {
         b'e' => writes::case(line),
         b'm' => rewrites::case(line),
         b'o' => steps::case(line),
+        b'j' => steps::jump(line),
         b't' => steps::tail(line),
         _ => {}
     }

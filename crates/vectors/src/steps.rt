@@ -2,36 +2,49 @@
 // where they end; the end; or the refusal.
 use crate::tables;
 use crate::text;
+use item_reader::Cursor;
 use item_reader::EntryRows;
 use item_reader::Next;
 use item_reader::RowRead;
+use refusal::Refusal;
 
+// By steps of a cursor, and then what a reader answers a third of the way.
 pub(crate) fn case(line: &[u8]) {
     let mut buf = [0u8; 2048];
     let n = line::bytes(line, 4, &mut buf);
+    let signature = line::short(line, 2);
+    let count = line::number(line, 3) as usize;
     text::head(line);
-    calls(
-        line::front(&buf, n),
-        line::short(line, 2),
-        line::number(line, 3) as usize,
-    );
+    let first = Cursor::start(line::front(&buf, n), signature);
+    steps(line::front(&buf, n), first, count);
+    text::end();
+    text::start(b"nth");
+    text::word(line::word(line, 1));
+    let body = line::front(&buf, n);
+    answer(body, item_reader::nth(body, signature, count / 3));
     text::end();
 }
 
-// What so many calls answer, one after another.
-fn calls(body: &[u8], signature: u32, count: usize) {
+// What so many steps answer, and the cursor after them.
+fn steps(body: &[u8], first: Cursor, count: usize) -> Cursor {
+    let mut cursor = first;
     let mut k = 0;
     while k < count {
-        answer(body, item_reader::nth(body, signature, k));
+        let s = cursor.step(body);
+        let got = s.answer;
+        answer(body, got);
+        cursor = s.cursor;
         k += 1;
     }
+    cursor
 }
 
 fn answer(body: &[u8], got: Next) {
     match got {
         Next::Item { item, rows } => {
             tables::item(item);
-            entries(body, rows);
+            let entries = item.entries();
+            entry_rows(body, rows, entries.count);
         }
         Next::End => text::word(b"end"),
         Next::Refused(why) => {
@@ -42,8 +55,7 @@ fn answer(body: &[u8], got: Next) {
 }
 
 // The rows of an item, and the end after them.
-fn entries(body: &[u8], rows: EntryRows) {
-    let count = rows.left;
+fn entry_rows(body: &[u8], rows: EntryRows, count: usize) {
     let mut rest = rows;
     let mut i = 0;
     while i < count {
@@ -72,24 +84,47 @@ fn entry(body: &[u8], rows: EntryRows) -> EntryRows {
     }
 }
 
-// The next row from a place on, and where it leaves off.
-pub(crate) fn tail(line: &[u8]) {
-    let mut buf = [0u8; 32];
-    let n = line::bytes(line, 6, &mut buf);
-    let rows = EntryRows {
+// A cursor made of its numbers, stepped so many times; and where it then stands.
+pub(crate) fn jump(line: &[u8]) {
+    let mut buf = [0u8; 64];
+    let n = line::bytes(line, 8, &mut buf);
+    let from = Cursor {
         at: line::number(line, 2) as usize,
         total: line::short(line, 3),
-        index: line::number(line, 4),
-        left: line::number(line, 5) as usize,
+        used: line::number(line, 4) as usize,
+        item: line::number(line, 5) as usize,
+        count: line::number(line, 6) as usize,
+        refusal: Refusal {
+            number: refusal::NONE,
+            item: 0,
+        },
     };
     text::head(line);
-    place(entry(line::front(&buf, n), rows));
+    let after = steps(line::front(&buf, n), from, line::number(line, 7) as usize);
+    place(after);
     text::end();
 }
 
-fn place(rows: EntryRows) {
-    text::number(rows.at as u64);
-    text::number(rows.total as u64);
-    text::number(rows.index);
-    text::number(rows.left as u64);
+fn place(cursor: Cursor) {
+    text::number(cursor.at as u64);
+    text::number(cursor.total as u64);
+    text::number(cursor.used as u64);
+    text::number(cursor.item as u64);
+}
+
+// The first item of a body, and its rows read in another.
+pub(crate) fn tail(line: &[u8]) {
+    let mut buf = [0u8; 64];
+    let mut other = [0u8; 64];
+    let n = line::bytes(line, 2, &mut buf);
+    let m = line::bytes(line, 3, &mut other);
+    text::head(line);
+    answer(line::front(&other, m), first_of(line::front(&buf, n)));
+    text::end();
+}
+
+fn first_of(body: &[u8]) -> Next {
+    let cursor = Cursor::start(body, 0);
+    let s = cursor.step(body);
+    s.answer
 }

@@ -1,21 +1,21 @@
--- `vectors::steps::calls` is safe and ends.
+-- `vectors::steps::steps` is safe and ends.
 -- Assumes nothing.
 use Prim.Native.Nat.{_≤_, _-_}
 use borrow.Author.Needs.{needs}
-use Rattle.vectors.proofs.steps.calls.Statement.{statement}
-use Rattle.vectors.proofs.steps.calls.Tie as tie
+use Rattle.vectors.proofs.steps.steps.Statement.{statement}
+use Rattle.vectors.proofs.steps.steps.Tie as tie
 
 abbrev Inv-loop : tie.InvT-loop
-Inv-loop body signature count k₀ k = k ≤ count
+Inv-loop body count cursor₀ k₀ cursor k = k ≤ count
 
 abbrev μ-loop : tie.MeasureT-loop
-μ-loop body signature count k₀ k = count - k
+μ-loop body count cursor₀ k₀ cursor k = count - k
 
 loop-holds : tie.Need-loop-holds Inv-loop μ-loop
 loop-holds c = search needs
 
-nth-requires : tie.Need-nth-requires Inv-loop μ-loop
-nth-requires c κs = search needs
+step-requires : tie.Need-step-requires Inv-loop μ-loop
+step-requires c κs = search needs
 
 answer-requires : tie.Need-answer-requires Inv-loop μ-loop
 answer-requires c κs = search needs
@@ -32,14 +32,14 @@ loop-again c = search needs
 returns : tie.Need-returns Inv-loop μ-loop
 returns c = search needs
 
-pub calls-spec : {M : Type 1} → statement M
-calls-spec =
+pub steps-spec : {M : Type 1} → statement M
+steps-spec =
     tie.close
     (tie.spec
     Inv-loop
     μ-loop
     loop-holds
-    nth-requires
+    step-requires
     answer-requires
     add-k
     loop-less

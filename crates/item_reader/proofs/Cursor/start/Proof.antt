@@ -1,12 +1,12 @@
--- `item_reader::open_body` meets its contract: what the plain reading answers, and the place after the item count.
+-- `item_reader::Cursor::start` meets its contract: what the plain reading answers, and the place after the item count.
 -- Assumes nothing.
 use mathlib.Core.Path.{sym, _∙_}
 use lib.Seq.{length-take-le}
 use native.Mathlib.Omega.{arith}
-use Rattle.item_reader.proofs.OpenLaws.{opens, opens-refused}
+use Rattle.item_reader.proofs.OpenLaws.{starts, starts-refused}
 use borrow.Author.Needs.{needs}
-use Rattle.item_reader.proofs.open_body.Statement.{statement}
-use Rattle.item_reader.proofs.open_body.Tie as tie
+use Rattle.item_reader.proofs.Cursor.start.Statement.{statement}
+use Rattle.item_reader.proofs.Cursor.start.Tie as tie
 
 check-requires : tie.Need-check-requires
 check-requires c κs = search needs
@@ -27,13 +27,13 @@ enum-known-why : tie.Need-enum-known-why
 enum-known-why c = search needs
 
 returns : tie.Need-returns
-returns c = opens _ _ (sym (c .before .before .before .before .items .given .1) ∙ c .before .before .before .before .before .before .check .ensures) (c .before .before .sealed-len .ensures) (c .after-count .ensures)
+returns c = starts _ _ (sym (c .before .before .before .before .items .given .1) ∙ c .before .before .before .before .before .before .check .ensures) (c .before .before .sealed-len .ensures) (c .after-count .ensures)
 
 returns-2 : tie.Need-returns-2
-returns-2 c = opens-refused _ _ (sym (c .before .why .given .1) ∙ c .before .before .before .check .ensures)
+returns-2 c = starts-refused _ _ (sym (c .before .why .given .1) ∙ c .before .before .before .check .ensures)
 
-pub open-body-spec : {M : Type 1} → statement M
-open-body-spec =
+pub start-spec : {M : Type 1} → statement M
+start-spec =
     tie.close
     (tie.spec
     check-requires

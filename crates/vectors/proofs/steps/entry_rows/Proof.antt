@@ -1,9 +1,9 @@
--- `vectors::steps::entries` is safe and ends.
+-- `vectors::steps::entry_rows` is safe and ends.
 -- Assumes nothing.
 use Prim.Native.Nat.{_≤_, _-_}
 use borrow.Author.Needs.{needs}
-use Rattle.vectors.proofs.steps.entries.Statement.{statement}
-use Rattle.vectors.proofs.steps.entries.Tie as tie
+use Rattle.vectors.proofs.steps.entry_rows.Statement.{statement}
+use Rattle.vectors.proofs.steps.entry_rows.Tie as tie
 
 abbrev Inv-loop : tie.InvT-loop
 Inv-loop body count rest₀ i₀ rest i = i ≤ count
@@ -32,8 +32,8 @@ entry-requires-2 c κs = search needs
 returns : tie.Need-returns Inv-loop μ-loop
 returns c = search needs
 
-pub entries-spec : {M : Type 1} → statement M
-entries-spec =
+pub entry-rows-spec : {M : Type 1} → statement M
+entry-rows-spec =
     tie.close
     (tie.spec
     Inv-loop
