@@ -199,31 +199,12 @@ fn body_moved(race: &mut Race, name: &'static str, data: &[u8], rust_writes: imp
     assert_eq!(out, data);
 }
 
-/// The rows of each item of a body, as the reader hands them out.
-fn rows_of_items(data: &[u8]) -> Vec<values::Rows> {
-    let mut all = vec![];
-    let mut rows = [0; 4];
-    while values::nth(data, Engine::SIGNATURE, all.len(), &mut rows) == 0 {
-        all.push(rows);
-    }
-    all
-}
-
-/// One reader stepped through all items to the end, and each item's rows read one by one. Where an item's rows stand is worked out before.
+/// One cursor stepped through all items to the end, and each item's rows read one by one.
 fn body_stepped(race: &mut Race, name: &'static str, data: &[u8]) {
-    let items = rows_of_items(data);
     let step = || {
-        let data = black_box(data);
-        assert_eq!(values::nth(data, Engine::SIGNATURE, items.len(), &mut [0; 4]), values::END);
-        for first in &items {
-            let mut rows = *first;
-            for _ in 0..first[3] {
-                let before = rows;
-                assert_eq!(values::row(data, before, &mut rows), 0);
-            }
-            assert_eq!(rows[3], 0);
-        }
-        items.len() as u64
+        let mut answer = [0; 2];
+        assert_eq!(values::steps(black_box(data), Engine::SIGNATURE, &mut answer), 0);
+        answer[0]
     };
     let rust = || Engine::decode_body(black_box(data)) as u64;
     assert_eq!(step(), rust());

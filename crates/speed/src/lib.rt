@@ -47,8 +47,8 @@ pub extern "C" fn speed_steps(body: &[u8], signature: u32, answer: &mut [u64; 2]
     ensures { λ r. ⌜ reply r (now (answer .exit)) ≡ stepsReply (checkOf (readBody (now (body .entry)) signature)) ⌝ }
 {
     let mut cursor = Cursor::start(body, signature);
-    let mut items = 0;
-    let mut entries = 0;
+    let mut items: u64 = 0;
+    let mut entries: usize = 0;
     loop {
         let s = cursor.step(body);
         let got = s.answer;
@@ -59,7 +59,7 @@ pub extern "C" fn speed_steps(body: &[u8], signature: u32, answer: &mut [u64; 2]
                 cursor = s.cursor;
             }
             Next::End => {
-                *answer = [items as u64, entries as u64];
+                *answer = [items, entries as u64];
                 return refusal::NONE;
             }
             Next::Refused(why) => {

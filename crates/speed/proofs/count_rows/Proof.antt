@@ -4,7 +4,7 @@ use Prim.Native.Nat.{_-_}
 use mathlib.Core.Path.{sym, _∙_}
 use native.Mathlib.Omega.{arith}
 use Rattle.log_batch.specs.Seal.{sealedPart}
-use Rattle.speed.proofs.Counting.{Counted, none-counted, one-more, room, all-counted, not-refused}
+use Rattle.speed.proofs.Counting.{Counted, none-counted, one-more, fewer, room, all-counted, not-refused}
 use borrow.Author.Needs.{needs}
 use Rattle.speed.proofs.count_rows.Statement.{statement}
 use Rattle.speed.proofs.count_rows.Tie as tie
@@ -25,25 +25,25 @@ enum-known-after : tie.Need-enum-known-after Inv-loop μ-loop
 enum-known-after c = search needs
 
 add-n : tie.Need-add-n Inv-loop μ-loop
-add-n c = ?
+add-n c = omega (arith, room _ _ (c .before .before .before .before .loop .inv) (sym (c .before .before .before .next-row .ensures) ∙ c .before .after .given .1))
 
 loop-less : tie.Need-loop-less Inv-loop μ-loop
-loop-less c = ?
+loop-less c = omega (arith, fewer _ _ (c .before .before .before .before .loop .inv) (sym (c .before .before .before .next-row .ensures) ∙ c .before .after .given .1))
 
 loop-again : tie.Need-loop-again Inv-loop μ-loop
-loop-again c = ?
+loop-again c = one-more _ _ (c .before .before .before .before .loop .inv) (sym (c .before .before .before .next-row .ensures) ∙ c .before .after .given .1)
 
 enum-told : tie.Need-enum-told Inv-loop μ-loop
 enum-told c = search needs
 
 returns : tie.Need-returns Inv-loop μ-loop
-returns c = ?
+returns c = all-counted _ _ (c .before .before .before .loop .inv) (sym (c .before .before .next-row .ensures) ∙ c .enum-told .given .1)
 
 enum-told-2 : tie.Need-enum-told-2 Inv-loop μ-loop
 enum-told-2 c = search needs
 
 returns-2 : tie.Need-returns-2 Inv-loop μ-loop
-returns-2 c = ?
+returns-2 c = not-refused _ _ (c .before .before .before .loop .inv) (sym (c .before .before .next-row .ensures) ∙ c .enum-told2 .given .1)
 
 pub count-rows-spec : {M : Type 1} → statement M
 count-rows-spec =
