@@ -319,7 +319,7 @@ def step(t, k):
 
 
 def step_from(b, at, total, used, item, count):
-    """What a step hands out from a place of a body on, with the total and the entries before it, at that item of so many; and where it leads."""
+    """What a step hands out at a place, with the total and the entries before it, at that item of so many; and where it leads."""
     if item >= count:
         return None, (at, total, used, item)
     r, t = Reader(b[:-4]), Table()

@@ -24,7 +24,8 @@
 //     memtable NAME FIRST COUNT ROWS CALLS                        a table of locations (locations.rt), and calls on it, each on what the
 //                                                                 one before it left: rewrite GATE FIRST ROWS, the gate `-` for none,
 //                                                                 and fetch GATE
-//     open NAME SIGNATURE CALLS BYTES                             a body with its footer, stepped through by so many calls
+//     open NAME SIGNATURE CALLS BYTES                             a body with its footer, stepped through by so many steps, and then one
+//                                                                 call of nth, a third of the way
 //     jump NAME AT TOTAL USED ITEM COUNT CALLS BYTES              a cursor made of these numbers, stepped so many times in such a body
 //     tail NAME BYTES OTHER                                       the first item of such a body, its rows read in the other
 use crate::alone;
