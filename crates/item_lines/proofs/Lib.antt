@@ -1,0 +1,5 @@
+pub mod Digits
+pub mod Pieces
+pub mod Lines
+pub mod Theorems
+pub mod Determined
