@@ -1,6 +1,7 @@
 """The lines of the program vectors: what each kind of case prints, by the model. crates/vectors/src/cases.rt has the kinds."""
 import struct
 
+from listing import listing
 from model import BLANK_ROW, Reader, Refused, Table, crc, fetch, little, next_row, read_batch, read_body, read_header, read_item
 from model import read_items, read_number, rewrite, rows_of_first, spell, status, step, step_from, view, write_batch, write_body
 from model import write_item
@@ -111,6 +112,11 @@ def do_go(name, b):
     except Refused as why:
         return [line("go", name, why.number, why.item)]
     return [line("go", name, "counts", t.item_count, t.entry_count, t.total, t.next)]
+
+
+def do_display(name, at, b):
+    room = 128 - int(at, 16)
+    return [line("display", name, text if len(text) < room else "no-room") for text in listing(data(b))]
 
 
 def do_whole(name, signature, b):
@@ -342,7 +348,8 @@ def do_tail(name, b, other):
 
 DO = {
     "crc": do_crc, "number": do_number, "read": do_read, "big": do_big, "little": do_little, "header": do_header,
-    "items": do_items, "footed": do_footed, "plain": do_plain, "go": do_go, "whole": do_whole,
-    "view": do_view, "status": do_status, "encode": do_encode, "alone": do_alone, "memtable": do_memtable, "open": do_open,
+    "items": do_items, "footed": do_footed, "plain": do_plain, "go": do_go,
+    "display": do_display, "whole": do_whole, "view": do_view, "status": do_status, "encode": do_encode, "alone": do_alone,
+    "memtable": do_memtable, "open": do_open,
     "jump": do_jump, "tail": do_tail,
 }

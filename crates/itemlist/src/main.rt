@@ -1,16 +1,12 @@
 // Lists the items of a body without footer, which it reads from standard input: a line of sums, then a line for each command, key and
-// entry; or the refusal alone.
-mod lines;
-
+// entry; or the refusal alone. The lines wait in a buffer, which goes to standard output where it is full; `at` is the number of bytes
+// that wait, and each function answers how many wait after it.
 use libc::STDIN_FILENO;
+use libc::STDOUT_FILENO;
 use log_batch::LogItemBatch;
-use log_item::Command;
 use log_item::EntryIndex;
-use log_item::KeyValue;
 use log_item::LogItem;
-use log_item::LogItemContent;
-use log_item::Op;
-use refusal::Refusal;
+use words::Wrote;
 
 fn main() {
     let mut input = io::large_buffer();
@@ -26,22 +22,16 @@ fn list(table: LogItemBatch) {
         let start = sums(table, out);
         rows(table, out, start)
     } else {
-        refused(why, out)
+        after(item_lines::refused_line(why, out, 0))
     };
-    lines::flush(out, end);
-}
-
-fn refused(why: Refusal, out: &mut [u8]) -> usize {
-    let mut at = lines::field(out, 0, b"refused ", why.number as u64);
-    at = lines::field(out, at, b" ", why.item as u64);
-    lines::word(out, at, b"\n")
+    flush(out, end);
 }
 
 fn sums(table: LogItemBatch, out: &mut [u8]) -> usize {
-    let mut at = lines::field(out, 0, b"items ", table.item_count as u64);
-    at = lines::field(out, at, b" entries ", table.entry_count as u64);
-    at = lines::field(out, at, b" bytes ", table.total as u64);
-    lines::word(out, at, b"\n")
+    let items = table.item_count as u64;
+    let entries = table.entry_count as u64;
+    let bytes = table.total as u64;
+    after(item_lines::sums_line(items, entries, bytes, out, 0))
 }
 
 // The items in order, each with the next rows as its entries. A reading never fills more rows than the table has; that neither place
@@ -77,48 +67,36 @@ fn rows(table: LogItemBatch, out: &mut [u8], start: usize) -> usize {
     }
 }
 
-fn entry_line(group: u64, row: EntryIndex, out: &mut [u8], start: usize) -> usize {
-    let mut at = lines::field(out, start, b"", group);
-    at = lines::field(out, at, b" entry ", row.index);
-    at = lines::field(out, at, b" ", row.entry_offset as u64);
-    at = lines::field(out, at, b" ", row.entry_len as u64);
-    lines::word(out, at, b"\n")
+fn entry_line(group: u64, row: EntryIndex, out: &mut [u8], at: usize) -> usize {
+    match item_lines::entry_line(group, row, out, at) {
+        Wrote::Next(next) => next,
+        Wrote::NoRoom => {
+            flush(out, at);
+            after(item_lines::entry_line(group, row, out, 0))
+        }
+    }
 }
 
-// The line of a command or a key. Entries have none of their own.
 fn item_line(item: LogItem, out: &mut [u8], at: usize) -> usize {
-    let content = item.content;
-    match content {
-        LogItemContent::EntryIndexes(_) => at,
-        LogItemContent::Command(command) => command_line(item.raft_group_id, command, out, at),
-        LogItemContent::Kv(key_value) => key_line(item.raft_group_id, key_value, out, at),
-    }
-}
-
-fn command_line(group: u64, command: Command, out: &mut [u8], start: usize) -> usize {
-    let mut at = lines::field(out, start, b"", group);
-    match command {
-        Command::Clean => lines::word(out, at, b" clean\n"),
-        Command::Compact { index } => {
-            at = lines::field(out, at, b" compact ", index);
-            lines::word(out, at, b"\n")
+    match item_lines::item_line(item, out, at) {
+        Wrote::Next(next) => next,
+        Wrote::NoRoom => {
+            flush(out, at);
+            after(item_lines::item_line(item, out, 0))
         }
     }
 }
 
-fn key_line(group: u64, key_value: KeyValue, out: &mut [u8], start: usize) -> usize {
-    let key = key_value.key;
-    let op = key_value.op;
-    let mut at = lines::field(out, start, b"", group);
-    match op {
-        Op::Put { value } => {
-            at = lines::field(out, at, b" put ", key.len as u64);
-            at = lines::field(out, at, b" ", value.len as u64);
-            lines::word(out, at, b"\n")
-        }
-        Op::Del => {
-            at = lines::field(out, at, b" del ", key.len as u64);
-            lines::word(out, at, b"\n")
-        }
+// The place after a line that was put at the start of the buffer, where each has room.
+fn after(wrote: Wrote) -> usize {
+    match wrote {
+        Wrote::Next(next) => next,
+        Wrote::NoRoom => 0,
+    }
+}
+
+fn flush(out: &[u8], at: usize) {
+    if at <= out.len() {
+        io::write_all(STDOUT_FILENO, &out[..at]);
     }
 }

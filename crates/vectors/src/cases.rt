@@ -11,6 +11,8 @@
 //     footed NAME SIGNATURE BYTES                                 a body with its footer
 //     plain NAME BYTES                                            the same, unsigned, asked for its form
 //     go NAME BYTES                                               a body without footer, gone over without a table
+//     display NAME AT BYTES                                       the lines that itemlist has for a body without footer, each put at a
+//                                                                 place of 128 bytes
 //     whole NAME SIGNATURE BYTES                                  a whole batch
 //     view NAME QUEUE LENGTH PLACE ENTRYLENGTH APPEND REWRITE     queue 0 is append, and both blocks are lent
 //     status NAME LENT BYTES                                      an item, and how many of its bytes are lent
@@ -31,6 +33,7 @@
 use crate::alone;
 use crate::bodies;
 use crate::headers;
+use crate::listings;
 use crate::number;
 use crate::rewrites;
 use crate::statuses;
@@ -73,6 +76,7 @@ fn case(line: &[u8]) {
         b'v' => views::case(line),
         b's' => statuses::case(line),
         b'e' => writes::case(line),
+        b'd' => listings::case(line),
         b'm' => rewrites::case(line),
         b'o' => steps::case(line),
         b'j' => steps::jump(line),

@@ -5,6 +5,7 @@ mod bodies;
 mod cases;
 mod edits;
 mod headers;
+mod listings;
 mod locations;
 mod number;
 mod rewrites;

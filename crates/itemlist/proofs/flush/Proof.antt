@@ -1,11 +1,11 @@
--- `itemlist::lines::flush` is safe.
+-- `itemlist::flush` is safe.
 -- Assumes nothing.
 use mathlib.Core.Path.{sym}
 use lib.Seq.{length-take-le}
 use native.Mathlib.Omega.{arith}
 use borrow.Author.Needs.{needs}
-use Rattle.itemlist.proofs.lines.flush.Statement.{statement}
-use Rattle.itemlist.proofs.lines.flush.Tie as tie
+use Rattle.itemlist.proofs.flush.Statement.{statement}
+use Rattle.itemlist.proofs.flush.Tie as tie
 
 slice-aggregate-write-all : tie.Need-slice-aggregate-write-all
 slice-aggregate-write-all c = sym (length-take-le _ _ (omega arith))
