@@ -230,7 +230,7 @@ fn shorter_rows(rows: &[Row]) -> Vec<Vec<Row>> {
     let mut out: Vec<Vec<Row>> = parts(rows.len()).map(|(from, to)| [&rows[..from], &rows[to..]].concat()).collect();
     out.push(rows.iter().map(|row| Row { file: 0, place: 0, block: 0, offset: 0, len: 0, ..*row }).collect());
     out.push(rows.iter().map(|row| Row { place: 0, block: 0, offset: 0, len: 0, ..*row }).collect());
-    for k in 0..rows.len() {
+    for k in 0..rows.len().min(64) {
         for row in smaller_row(&rows[k]) {
             let mut less = rows.to_vec();
             less[k] = row;
