@@ -7,5 +7,6 @@ pub mod OpenLaws
 pub mod Opened
 pub mod Through
 pub mod Theorems
+pub mod Ends
 pub mod Determined
 pub mod OneReading

@@ -1,15 +1,12 @@
 -- Counting while stepping: the rows of an item, and the items of a body with all their rows.
 -- Assumes nothing.
-use Prim.Native.Nat.{ℕ, zero, suc, _+_, _-_, _≤_}
+use Prim.Native.Nat.{ℕ, _+_, _≤_}
 use mathlib.Core.Path.{_≡_, refl, sym, ap, _∙_}
 use mathlib.Core.List.{List, [], _∷_, _++_}
 use native.Mathlib.Omega.{arith}
 use lib.ListN.{length, length-append}
 use denote.Ref.{RefT, now}
 use Rattle.refusal.specs.declared.Refusal.{Refusal}
-use Rattle.log_item.specs.Got.{Got, got, refused}
-use Rattle.log_item.specs.Reading.{tail}
-use Rattle.log_item.specs.declared.Form.the-variants.{Any}
 use Rattle.log_item.specs.declared.LogItem.{LogItem}
 use Rattle.log_item.specs.declared.EntryIndex.{EntryIndex}
 use Rattle.log_batch.specs.Seal.{sealedPart}
@@ -23,12 +20,13 @@ use Rattle.item_reader.specs.declared.EntryRows.{EntryRows}
 use Rattle.item_reader.specs.declared.RowRead.the-variants as row
 use Rattle.item_reader.specs.declared.Stepped.{Stepped}
 use Rattle.item_reader.specs.declared.Next.the-variants as next
-use Rattle.item_reader.specs.Rows.{ifLeft, rowOfTail, nextRow}
+use Rattle.item_reader.specs.Rows.{nextRow}
 use Rattle.item_reader.specs.Cursor.{started, stepped}
 use Rattle.item_reader.specs.Reader.{readerAt, afterCalls}
 use Rattle.item_reader.specs.Stepping.{GoesThrough, StepsThrough}
 use Rattle.item_reader.specs.Stepping as go
 use Rattle.item_reader.proofs.Theorems.{same-items, same-refusal}
+use Rattle.item_reader.proofs.Ends.{row-passed}
 use Rattle.speed.specs.Replies.{stepsReply}
 
 -- ---- rows
@@ -43,16 +41,6 @@ module _ (s : List ℕ) (first : EntryRows) where
   none-counted = record { fits = omega arith; more = λ xs g. (xs, g, omega arith) }
 
   module _ {r : EntryRows} {n : ℕ} (c : Counted r n) where
-    -- a row leaves one row less
-    pub fewer : {x : EntryIndex} {rest : EntryRows} → nextRow s r ≡ row.Row x rest → r .left ≡ rest .left + 1
-    unfolding nextRow
-    fewer {x} {rest} e = by-left (r .left) refl (tail Any s (r .total) (r .at)) e
-      where
-        by-left : (m : ℕ) → m ≡ r .left → (g : Got ℕ) → ifLeft m (rowOfTail r g) ≡ row.Row x rest → r .left ≡ rest .left + 1
-        by-left zero h g f = let o : _≡_ {A = ℕ} 0 1 = cc in absurd (omega arith)
-        by-left (suc m) h (got w q) f = let l : rest .left ≡ r .left - 1 = cc in omega (arith, h)
-        by-left (suc m) h (refused k) f = let o : _≡_ {A = ℕ} 0 1 = cc in absurd (omega arith)
-
     goes-on : {x : EntryIndex} {rest : EntryRows} {ys : List EntryIndex} → nextRow s r ≡ row.Row x rest → GoesThrough s r ys
         → (zs : List EntryIndex) × GoesThrough s rest zs × (length ys ≡ length zs + 1)
     goes-on e (go.GoesThrough.end f) = let o : _≡_ {A = ℕ} 0 1 = cc in absurd (omega arith)
@@ -60,12 +48,12 @@ module _ (s : List ℕ) (first : EntryRows) where
 
     pub one-more : {x : EntryIndex} {rest : EntryRows} → nextRow s r ≡ row.Row x rest → Counted rest (n + 1)
     one-more e = record {
-      fits = omega (arith, fewer e, c .fits);
+      fits = omega (arith, row-passed s r e, c .fits);
       more = λ xs g. let a = c .more xs g in let b = goes-on e (a .1) in (b .0, b .1, omega (arith, a .2, b .2));
     }
 
     pub room : {x : EntryIndex} {rest : EntryRows} → nextRow s r ≡ row.Row x rest → n + 1 ≤ first .left
-    room e = omega (arith, fewer e, c .fits)
+    room e = omega (arith, row-passed s r e, c .fits)
 
     none-left : {ys : List EntryIndex} → nextRow s r ≡ row.End → GoesThrough s r ys → length ys ≡ 0
     none-left e (go.GoesThrough.end f) = refl

@@ -1,10 +1,10 @@
 -- `speed::count_rows` meets its contract: each row that is read is one of those that are left.
 -- Assumes nothing.
-use Prim.Native.Nat.{_-_}
 use mathlib.Core.Path.{sym, _∙_}
 use native.Mathlib.Omega.{arith}
 use Rattle.log_batch.specs.Seal.{sealedPart}
-use Rattle.speed.proofs.Counting.{Counted, none-counted, one-more, fewer, room, all-counted, not-refused}
+use Rattle.item_reader.proofs.Ends.{row-passed}
+use Rattle.speed.proofs.Counting.{Counted, none-counted, one-more, room, all-counted, not-refused}
 use borrow.Author.Needs.{needs}
 use Rattle.speed.proofs.count_rows.Statement.{statement}
 use Rattle.speed.proofs.count_rows.Tie as tie
@@ -28,7 +28,7 @@ add-n : tie.Need-add-n Inv-loop μ-loop
 add-n c = omega (arith, room _ _ (c .before .before .before .before .loop .inv) (sym (c .before .before .before .next-row .ensures) ∙ c .before .after .given .1))
 
 loop-less : tie.Need-loop-less Inv-loop μ-loop
-loop-less c = omega (arith, fewer _ _ (c .before .before .before .before .loop .inv) (sym (c .before .before .before .next-row .ensures) ∙ c .before .after .given .1))
+loop-less c = omega (arith, row-passed _ _ (sym (c .before .before .before .next-row .ensures) ∙ c .before .after .given .1))
 
 loop-again : tie.Need-loop-again Inv-loop μ-loop
 loop-again c = one-more _ _ (c .before .before .before .before .loop .inv) (sym (c .before .before .before .next-row .ensures) ∙ c .before .after .given .1)
