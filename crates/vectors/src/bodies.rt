@@ -11,9 +11,8 @@ pub(crate) fn case(line: &[u8]) {
     let mut buf = [0u8; 2048];
     let signature = line::short(line, 2);
     let len = line::bytes(line, 3, &mut buf);
-    let footed = list_writer::write_footer(signature, &mut buf, 0, len);
     let n = if line::first_letter(line) == b'i' {
-        footed
+        list_writer::write_footer(signature, &mut buf, 0, len)
     } else {
         len
     };
