@@ -2,15 +2,15 @@
 -- Assumes nothing.
 use Prim.Native.Nat.{ℕ, _+_, _-_, _≤_, _<_}
 use mathlib.Core.Path.{_≡_, sym, ap, _∙_}
-use mathlib.Core.Bool.{Bool}
+use mathlib.Core.Bool.{Bool, not}
 use mathlib.Core.List.{List}
 use native.Mathlib.Omega.{arith}
 use lib.Dec.{leb, eqb}
 use lib.Bits.{bitXor}
 use lib.ListN.{length, take, drop, length-append}
 use lib.Seq.{sets-eq, take-at}
-use borrow.Author.Tests.{eq-eqb, ne-eqb, le-leb, lt-leb, leb-true, eqb-false}
-use Rattle.refusal.proofs.First.{not-first, not-second}
+use borrow.Author.Tests.{not-true, eq-eqb, ne-eqb, le-leb, lt-leb, leb-true, eqb-false}
+use Rattle.refusal.proofs.First.{not-second}
 use Rattle.codec.specs.Shortest.{shortest}
 use Rattle.words.specs.Word.{littleEndianBytes}
 use Rattle.words.specs.Write.{nextAt, placed}
@@ -130,9 +130,9 @@ some-length h e = h (ap (λ (x : Encoded). x .length) e)
 pub placing-told : {told m : Measured} → m ≡ told → (all at : ℕ) {r : Encoded} → r ≡ encodedIn m all at → (r .length ≡ 0 → ⊥)
     → (m .length ≡ 0 → ⊥) × (at + m .length ≤ all) × (r .length ≡ m .length)
 placing-told {told} {m} same all at {r} e h =
-    let a = not-first (eqb (m .length) 0) e (some-length h) in
+    let a = not-second (not (eqb (m .length) 0)) e (some-length h) in
     let b = not-second (leb (at + m .length) all) (a .1) (some-length h) in
-    (eqb-false (m .length) 0 (a .0), leb-true _ _ (b .0), ap (λ (x : Encoded). x .length) (b .1))
+    (eqb-false (m .length) 0 (not-true _ (a .0)), leb-true _ _ (b .0), ap (λ (x : Encoded). x .length) (b .1))
 
 -- ---- the ways out
 

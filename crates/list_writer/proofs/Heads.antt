@@ -42,3 +42,7 @@ unless-fine (suc r) k v t h = absurd (let z : _≡_ {A = ℕ} 0 1 = cc in omega 
 pub cond-fine : (b : Bool) (n k : ℕ) (v : Verdict) (t : ℕ) → cond b (refused n k) v ≡ fine t → (b ≡ false) × (v ≡ fine t)
 cond-fine true n k v t h = absurd (let z : _≡_ {A = ℕ} 0 1 = cc in omega arith)
 cond-fine false n k v t h = (refl, h)
+
+pub else-fine : (b : Bool) (n k : ℕ) (v : Verdict) (t : ℕ) → cond b v (refused n k) ≡ fine t → (b ≡ true) × (v ≡ fine t)
+else-fine true n k v t h = (refl, h)
+else-fine false n k v t h = absurd (let z : _≡_ {A = ℕ} 0 1 = cc in omega arith)

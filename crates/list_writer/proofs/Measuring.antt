@@ -6,9 +6,9 @@ use mathlib.Core.Logic.{_⊎_, inl, inr}
 use mathlib.Core.Bool.{Bool, true, false, cond}
 use mathlib.Core.List.{List, _++_}
 use native.Mathlib.Omega.{arith}
-use lib.Dec.{ltb}
+use lib.Dec.{ltb, leb}
 use lib.ListN.{length, getD, length-append}
-use borrow.Author.Tests.{lt-ltb, le-ltb, ltb-true, ltb-false}
+use borrow.Author.Tests.{lt-ltb, le-ltb, ltb-true, ltb-false, lt-leb, le-leb, leb-true}
 use Rattle.codec.specs.Shortest.{shortest}
 use Rattle.codec.proofs.Theorems.{shortest-spells}
 use Rattle.log_item.specs.Entries.{entriesOf}
@@ -23,7 +23,7 @@ use Rattle.list_writer.specs.declared.Measured.{Measured}
 use Rattle.list_writer.specs.Bytes.{itemsBytes, listBytes}
 use Rattle.list_writer.specs.Refusing.{Verdict, fine, refused, unlessItem, itemsVerdict, listVerdict}
 use Rattle.list_writer.specs.Answers.{measured, measuredOf, measureOf}
-use Rattle.list_writer.proofs.Heads.{head-fine, unless-refused, cond-fine}
+use Rattle.list_writer.proofs.Heads.{head-fine, unless-refused, else-fine}
 use Rattle.list_writer.proofs.Rest.{restBytes, bytes-row, bytes-item, bytes-end, bytes-start, restVerdict, told-row, told-item, told-end, told-start}
 
 -- A number up to the largest tail has at most ten bytes.
@@ -65,8 +65,8 @@ pub list-fine : (s : List ℕ) (checked : Bool) (xs : List LogItem) (ns : List �
     → (length xs ≤ 256) × (itemsVerdict s checked xs ns 0 0 0 ≡ fine t)
 unfolding listVerdict
 list-fine s checked xs ns {t} h =
-    let k = cond-fine (ltb 256 (length xs)) 9 0 (itemsVerdict s checked xs ns 0 0 0) t h in
-    (ltb-false 256 (length xs) (k .0), k .1)
+    let k = else-fine (leb (length xs) 256) 9 0 (itemsVerdict s checked xs ns 0 0 0) t h in
+    (leb-true (length xs) 256 (k .0), k .1)
 
 -- ---- the ways out
 
@@ -93,11 +93,11 @@ measured-capped t size n e = go (ltb 4294967291 size) refl
 module _ (s : List ℕ) (checked : Bool) (xs : List LogItem) (ns : List ℕ) where
   pub measured-9 : 256 < length xs → measured 9 0 0 0 ≡ measureOf s checked xs ns
   unfolding measureOf listVerdict measuredOf
-  measured-9 h = rw (lt-ltb 256 (length xs) h)
+  measured-9 h = rw (lt-leb (length xs) 256 h)
 
   pub list-refused : (n k : ℕ) → length xs ≤ 256 → itemsVerdict s checked xs ns 0 0 0 ≡ refused n k → measured n k 0 0 ≡ measureOf s checked xs ns
   unfolding measureOf listVerdict measuredOf
-  list-refused n k h e = rw (le-ltb 256 (length xs) h, e)
+  list-refused n k h e = rw (le-leb (length xs) 256 h, e)
 
 -- ---- the loop
 
@@ -195,5 +195,5 @@ module _ (s : List ℕ) (checked : Bool) (xs : List LogItem) (ns : List ℕ) whe
     unfolding measureOf listVerdict measuredOf listBytes
     measuring-end few e z h =
         let y = ap (λ (n : ℕ). restBytes s xs ns i j n t) (none z) ∙ bytes-end s xs ns i j t h in
-        rw (le-ltb 256 (length xs) few, told-all z h)
+        rw (le-leb (length xs) 256 few, told-all z h)
         (measured-capped t size (length (listBytes s xs ns)) (omega (arith, m .sum, ap length y, length-append (shortest (length xs)) (itemsBytes s xs ns 0))))

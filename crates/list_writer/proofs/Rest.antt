@@ -2,14 +2,14 @@
 -- Assumes nothing.
 use Prim.Native.Nat.{ℕ, zero, suc, _+_, _-_, _≤_, _<_}
 use mathlib.Core.Path.{_≡_, refl, sym, ap, _∙_}
-use mathlib.Core.Bool.{Bool, true, false, cond}
+use mathlib.Core.Bool.{Bool, true, false, not, cond}
 use mathlib.Core.List.{List, [], _∷_, _++_, append-assoc}
 use native.Mathlib.Omega.{arith}
 use native.Mathlib.Numerals.{add-one}
 use lib.Dec.{ltb}
 use lib.ListN.{length, take, drop, getD, length-drop, drop-of-length-le}
 use lib.Seq.{drop-cons, drop-drop}
-use borrow.Author.Tests.{ltb-true, lt-ltb, le-ltb}
+use borrow.Author.Tests.{ltb-true, lt-ltb, le-ltb, ne-eqb}
 use Rattle.refusal.specs.First.{firstOf}
 use Rattle.codec.specs.Shortest.{shortest}
 use Rattle.log_item.specs.Entries.{entriesOf}
@@ -34,9 +34,9 @@ next-item xs i h = drop-cons xs i blankItem h ∙ ap (λ (m : ℕ). getD xs i bl
 -- the first of two refusals, and the second where there is no first
 unless-first : (a b k : ℕ) (v : Verdict) → unlessItem (firstOf a b) k v ≡ unlessItem a k (unlessItem b k v)
 unless-first zero b k v = refl
-unless-first (suc a) b k v = refl
+unless-first (suc a) b k v = let some : suc a ≡ 0 → ⊥ = λ z. omega arith in rw (ne-eqb (suc a) 0 some)
 
-unless-cond : (c : Bool) (k : ℕ) (v : Verdict) → unlessItem (cond c 16 0) k v ≡ cond c (refused 16 k) v
+unless-cond : (c : Bool) (k : ℕ) (v : Verdict) → unlessItem (cond (not c) 0 16) k v ≡ cond c (refused 16 k) v
 unless-cond true k v = refl
 unless-cond false k v = refl
 
@@ -131,8 +131,8 @@ module _ (s : List ℕ) (xs : List LogItem) (ns : List ℕ) where
         let rest = itemsVerdict s checked (drop (i + 1) xs) (drop n (drop j ns)) (j + n) (i + 1) u in
         told-next i j t low
         ∙ ap (λ (l : List LogItem). itemsVerdict s checked l (drop j ns) j i t) (next-item xs i h)
-        ∙ unless-first (contentRefusal s checked j (j + length (drop j ns)) (x .content)) (cond b 16 0) i rest
-        ∙ ap (λ (m : ℕ). unlessItem (contentRefusal s checked j m (x .content)) i (unlessItem (cond b 16 0) i rest)) q
+        ∙ unless-first (contentRefusal s checked j (j + length (drop j ns)) (x .content)) (cond (not b) 0 16) i rest
+        ∙ ap (λ (m : ℕ). unlessItem (contentRefusal s checked j m (x .content)) i (unlessItem (cond (not b) 0 16) i rest)) q
         ∙ ap (unlessItem (contentRefusal s checked j (length ns) (x .content)) i) (unless-cond b i rest)
         ∙ ap (λ (l : List ℕ). unlessItem (contentRefusal s checked j (length ns) (x .content)) i (cond b (refused 16 i) (itemsVerdict s checked (drop (i + 1) xs) l (j + n) (i + 1) u))) (drop-drop n j ns)
         ∙ ap (λ (m : ℕ). unlessItem (contentRefusal s checked j (length ns) (x .content)) i (cond b (refused 16 m) (itemsVerdict s checked (drop (i + 1) xs) (drop (j + n) ns) (j + n) (i + 1) u))) k

@@ -1,7 +1,7 @@
 -- What the measure of a body and its writer answer, and what the writer leaves in the buffer.
 -- Assumes nothing.
 use Prim.Native.Nat.{ℕ, _+_}
-use mathlib.Core.Bool.{Bool, cond}
+use mathlib.Core.Bool.{Bool, cond, not}
 use mathlib.Core.List.{List}
 use mathlib.Core.Path.{_≡_}
 use lib.Dec.{ltb, leb, eqb}
@@ -10,6 +10,7 @@ use Rattle.log_item.specs.declared.LogItem.{LogItem}
 use Rattle.list_writer.specs.declared.Measured.{Measured}
 use Rattle.list_writer.specs.Bytes.{listBytes}
 use Rattle.list_writer.specs.Refusing.{Verdict, fine, refused, listVerdict}
+use Rattle.refusal.specs.First.{_else_, _>>_}
 use Rattle.words.specs.Write.{placed}
 use Rattle.list_writer.specs.declared.Encoded.{Encoded}
 
@@ -30,8 +31,10 @@ encoded number item len = record { number = number; item = item; length = len }
 
 -- the measure's refusal, then 21: the body does not fit from the place `at` on among `all` bytes
 abbrev pub encodedIn : Measured → ℕ → ℕ → Encoded
-encodedIn m all at =
-    cond (eqb (m .length) 0) (encoded (m .number) (m .item) 0) (cond (leb (at + m .length) all) (encoded 0 0 (m .length)) (encoded 21 0 0))
+encodedIn m all at = do
+  not (eqb (m .length) 0) else encoded (m .number) (m .item) 0
+  leb (at + m .length) all else encoded 21 0 0
+  encoded 0 0 (m .length)
 
 -- the same of a buffer
 unfoldable pub encodedOf : Measured → List ℕ → ℕ → Encoded

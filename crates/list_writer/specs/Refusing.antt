@@ -1,11 +1,11 @@
 -- Which refusal a writer gives a list of items: the checks in the order of document 01, but for 22 and 21.
 -- Assumes nothing.
 use Prim.Native.Nat.{ℕ, _+_}
-use mathlib.Core.Bool.{Bool, cond}
+use mathlib.Core.Bool.{Bool}
 use mathlib.Core.List.{List, [], _∷_}
-use lib.Dec.{ltb}
+use lib.Dec.{leb}
 use lib.ListN.{length, drop}
-use Rattle.refusal.specs.First.{firstOf, ifNone}
+use Rattle.refusal.specs.First.{_else_, _>>_, firstOf, ifNone}
 use Rattle.log_item.specs.Entries.{entriesOf}
 use Rattle.log_item.specs.declared.LogItem.{LogItem}
 use Rattle.log_item.specs.Refusing.{contentRefusal}
@@ -30,4 +30,6 @@ itemsVerdict s checked (x ∷ xs) lengths used k t =
 
 -- 9, then the items
 unfoldable pub listVerdict : List ℕ → Bool → List LogItem → List ℕ → Verdict
-listVerdict s checked xs lengths = cond (ltb 256 (length xs)) (refused 9 0) (itemsVerdict s checked xs lengths 0 0 0)
+listVerdict s checked xs lengths = do
+  leb (length xs) 256 else refused 9 0
+  itemsVerdict s checked xs lengths 0 0 0

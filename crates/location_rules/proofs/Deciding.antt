@@ -5,7 +5,7 @@ use Prim.Native.Nat.{ℕ, _-_, _<_, _≤_, max}
 use native.Mathlib.Omega.{arith}
 use mathlib.Core.Bool.{Bool, true, false}
 use lib.Dec.{eqb}
-use borrow.Author.Tests.{lt-ltb, le-ltb, eq-eqb, ne-eqb}
+use borrow.Author.Tests.{lt-ltb, le-ltb, lt-leb, le-leb, eq-eqb, ne-eqb}
 use Rattle.location_rules.specs.declared.Table.{Table}
 use Rattle.location_rules.specs.declared.Gate.{Gate}
 use Rattle.location_rules.specs.declared.Rewritten.{Rewritten}
@@ -38,20 +38,20 @@ module _ (good ready : Bool) (t : Table) (start stop end : ℕ) (gate : Gate) (r
 
     pub starts-late : t .count < start → r ≡ unchanged 24 (t .count) → r ≡ answered good ready t (start) (stop - start) (end - start) gate
     unfolding answered
-    starts-late b e = rw (g, h, some, lt-ltb (t .count) (start) b) e
+    starts-late b e = rw (g, h, some, lt-leb start (t .count) b) e
 
     module _ (b : start ≤ t .count) where
       pub starts-early : {n : ℕ} → gate ≡ Gate.Given n → start < t .count → r ≡ unchanged 25 (t .count) → r ≡ answered good ready t (start) (stop - start) (end - start) gate
       unfolding answered
-      starts-early k z e = rw (g, h, some, le-ltb (t .count) (start) b, k, lt-ltb (start) (t .count) z) e
+      starts-early k z e = rw (g, h, some, le-leb start (t .count) b, k, lt-ltb (start) (t .count) z) e
 
       pub gated : {n w : ℕ} → gate ≡ Gate.Given n → t .count ≤ start → w ≡ max start end → r ≡ moved (w - start) w → r ≡ answered good ready t (start) (stop - start) (end - start) gate
       unfolding answered
-      gated k z y e = e ∙ (rw (g, h, some, le-ltb (t .count) (start) b, k, le-ltb (start) (t .count) z) (same-moved (omega (arith, y)) (omega (arith, y))))
+      gated k z y e = e ∙ (rw (g, h, some, le-leb start (t .count) b, k, le-ltb (start) (t .count) z) (same-moved (omega (arith, y)) (omega (arith, y))))
 
       pub ungated : {c w : ℕ} → gate ≡ Gate.None → w ≡ max start end → c ≡ max w (t .count) → r ≡ moved (w - start) c → r ≡ answered good ready t start (stop - start) (end - start) gate
       unfolding answered
-      ungated k y z e = e ∙ (rw (g, h, some, le-ltb (t .count) start b, k) (same-moved (omega (arith, y)) (omega (arith, y, z))))
+      ungated k y z e = e ∙ (rw (g, h, some, le-leb start (t .count) b, k) (same-moved (omega (arith, y)) (omega (arith, y, z))))
 
 module _ (good : Bool) (t : Table) (start end : ℕ) where
   pub fetched-broken : good ≡ false → noRun 26 ≡ fetched good t (end - start)

@@ -2,9 +2,10 @@
 -- Assumes nothing.
 use Prim.Native.Nat.{ℕ, _+_, max}
 use mathlib.Core.Path.{_≡_}
-use mathlib.Core.Bool.{Bool, false, not, cond}
+use mathlib.Core.Bool.{Bool, false, not}
 use mathlib.Core.List.{List}
-use lib.Dec.{ltb, eqb}
+use lib.Dec.{leb, ltb, eqb}
+use Rattle.refusal.specs.First.{_else_, _>>_}
 use Rattle.location_rules.specs.declared.Table.{Table}
 use Rattle.location_rules.specs.declared.Gate.{Gate}
 use Rattle.location_rules.specs.declared.Rewritten.{Rewritten}
@@ -25,13 +26,13 @@ unchanged number count = record { number = number; replaced = 0; count = count }
 
 -- 26, 27; nothing incoming, or no overlap: unchanged; then 24, 25; else the run is replaced
 unfoldable pub answered : Bool → Bool → Table → ℕ → ℕ → ℕ → Gate → Rewritten
-answered isFormed isReady t place overlap run gate =
-    cond (not isFormed) (unchanged 26 (t .count))
-    (cond (not isReady) (unchanged 27 (t .count))
-    (cond (eqb overlap 0) (unchanged 0 (t .count))
-    (cond (ltb (t .count) place) (unchanged 24 (t .count))
-    (cond (early gate place (t .count)) (unchanged 25 (t .count))
-    (record { number = 0; replaced = run; count = countAfter gate (place + run) (t .count) })))))
+answered isFormed isReady t place overlap run gate = do
+  isFormed else unchanged 26 (t .count)
+  isReady else unchanged 27 (t .count)
+  not (eqb overlap 0) else unchanged 0 (t .count)
+  leb place (t .count) else unchanged 24 (t .count)
+  not (early gate place (t .count)) else unchanged 25 (t .count)
+  record { number = 0; replaced = run; count = countAfter gate (place + run) (t .count) }
 
 -- nothing is replaced, and the count and the rows, or their words, are the old ones
 abbrev pub Kept : {A : Type 0} → List A → Table → Rewritten → List A → Type 0
@@ -43,4 +44,6 @@ noRun number = record { number = number; place = 0; len = 0 }
 
 -- place and length of the run, an empty one too; or 26
 unfoldable pub fetched : Bool → Table → ℕ → Fetched
-fetched isFormed t run = cond isFormed (record { number = 0; place = t .count; len = run }) (noRun 26)
+fetched isFormed t run = do
+  isFormed else noRun 26
+  record { number = 0; place = t .count; len = run }

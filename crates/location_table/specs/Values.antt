@@ -5,6 +5,7 @@ use mathlib.Core.Bool.{Bool, _&&_, cond}
 use mathlib.Core.List.{List, _++_}
 use lib.Dec.{leb}
 use lib.ListN.{take, drop}
+use Rattle.refusal.specs.First.{_else_, _>>_}
 use Rattle.pipe_log.specs.declared.Location.{Location}
 use Rattle.location_rules.specs.declared.Table.{Table}
 use Rattle.location_rules.specs.declared.Gate.{Gate}
@@ -20,10 +21,14 @@ inReach n m = leb n 64 && leb m 64
 
 -- more than 64 rows: 21, nothing replaced and the old count
 unfoldable pub answerOf : ℕ → ℕ → Table → Rewritten → Rewritten
-answerOf len many t r = cond (inReach len many) r (unchanged 21 (t .count))
+answerOf len many t r = do
+  inReach len many else unchanged 21 (t .count)
+  r
 
 unfoldable pub fetchedOf : ℕ → Fetched → Fetched
-fetchedOf len r = cond (inReach len 0) r (noRun 21)
+fetchedOf len r = do
+  inReach len 0 else noRun 21
+  r
 
 unfoldable pub rewriteValue : List Location → ℕ → Table → List Location → ℕ → ℕ → Gate → Rewritten
 rewriteValue rows len t incoming many first gate = answerOf len many t (rewriteOf (take len rows) t (take many incoming) first gate)

@@ -6,6 +6,7 @@ use mathlib.Core.List.{List}
 use native.Mathlib.Omega.{arith}
 use borrow.Author.Tests.{le-leb, lt-leb, eq-eqb, ne-eqb}
 use lib.ListN.{length, take, drop, length-take, length-drop}
+use Rattle.refusal.specs.First.{passes}
 use Rattle.words.specs.Word.{bigEndian, readU64}
 use Rattle.words.specs.declared.U64Read.the-variants.{Done, Eof}
 use Rattle.words.proofs.Words.{u64-known, u64-ended}
@@ -22,7 +23,7 @@ use Rattle.log_batch.specs.Total.{agreeing}
 use Rattle.log_batch.specs.Table.{emptyTable, tableOf}
 use Rattle.log_batch.specs.declared.LogBatch.{LogBatch}
 use Rattle.log_batch.specs.Header.{frame, header}
-use Rattle.log_batch.specs.Batch.{blockOf, bodyOf, passes, frontBatch, readBatch}
+use Rattle.log_batch.specs.Batch.{blockOf, bodyOf, frontBatch, readBatch}
 
 -- ---- the two words
 

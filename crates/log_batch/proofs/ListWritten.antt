@@ -4,14 +4,14 @@
 use Prim.Native.Nat.{ℕ, zero, suc, _+_, _≤_, _<_}
 use mathlib.Core.Path.{_≡_, refl, sym, ap, _∙_}
 use mathlib.Core.Logic.{_⊎_, inl, inr}
-use mathlib.Core.Bool.{Bool, true, false, cond}
+use mathlib.Core.Bool.{Bool, true, false, not, cond}
 use mathlib.Core.List.{List, [], _∷_, _++_}
 use native.Mathlib.Omega.{arith}
 use lib.Dec.{ltb, leb}
 use lib.ListN.{length, take, drop}
-use borrow.Author.Tests.{ne-eqb, le-leb, leb-true, leb-false, ltb-false}
+use borrow.Author.Tests.{not-true, ne-eqb, le-leb, leb-true, leb-false, ltb-false}
 use Rattle.refusal.specs.First.{firstOf}
-use Rattle.refusal.proofs.First.{neither-refused, untaken}
+use Rattle.refusal.proofs.First.{neither-refused, taken}
 use Rattle.log_item.specs.Entries.{entriesOf}
 use Rattle.log_item.specs.declared.LogItem.{LogItem}
 use Rattle.log_item.specs.Refusing.{contentRefusal}
@@ -36,14 +36,14 @@ unfolding itemsVerdict
 items-fine s checked x xs ns used k t u e =
     let a = unless-fine (firstOf (contentRefusal s checked used (used + length ns) (x .content)) (tailRefusal x ns t)) k _ u e in
     let b = neither-refused (contentRefusal s checked used (used + length ns) (x .content)) (tailRefusal x ns t) (a .0) in
-    let c = untaken (ltb 4294967295 (sumOf t (rowLengths x ns))) 15 0 (b .1) in
-    (b .0, ltb-false _ _ (c .0), a .1)
+    let c = taken (not (ltb 4294967295 (sumOf t (rowLengths x ns)))) 15 0 (b .1) in
+    (b .0, ltb-false _ _ (not-true _ (c .0)), a .1)
 
 -- ---- a refusal's number is not 0
 
-first : (b : Bool) (m k : ℕ) (v : Verdict) (n i : ℕ) → 0 < m → (v ≡ refused n i → 0 < n) → cond b (refused m k) v ≡ refused n i → 0 < n
-first true m k v n i p f h = let q : m ≡ n = cc in omega arith
-first false m k v n i p f h = f h
+first : (b : Bool) (m k : ℕ) (v : Verdict) (n i : ℕ) → 0 < m → (v ≡ refused n i → 0 < n) → cond b v (refused m k) ≡ refused n i → 0 < n
+first true m k v n i p f h = f h
+first false m k v n i p f h = let q : m ≡ n = cc in omega arith
 
 items-number : (s : List ℕ) (checked : Bool) (xs : List LogItem) (ns : List ℕ) (used k t n i : ℕ) → itemsVerdict s checked xs ns used k t ≡ refused n i → 0 < n
 unfolding itemsVerdict
@@ -59,7 +59,7 @@ items-number s checked (x ∷ xs) ns used k t n i e =
 
 list-number : (s : List ℕ) (checked : Bool) (xs : List LogItem) (ns : List ℕ) (n i : ℕ) → listVerdict s checked xs ns ≡ refused n i → 0 < n
 unfolding listVerdict
-list-number s checked xs ns n i e = first (ltb 256 (length xs)) 9 0 _ n i (omega arith) (λ h. items-number s checked xs ns 0 0 0 n i h) e
+list-number s checked xs ns n i e = first (leb (length xs) 256) 9 0 _ n i (omega arith) (λ h. items-number s checked xs ns 0 0 0 n i h) e
 
 -- ---- what an answer of `encode` tells
 

@@ -8,6 +8,7 @@ use native.Mathlib.Omega.{arith}
 use lib.Dec.{eqb}
 use lib.ListN.{length, take, drop}
 use borrow.Author.Tests.{ne-eqb, eqb-true}
+use Rattle.refusal.specs.First.{passes}
 use Rattle.words.specs.Word.{bigEndian}
 use Rattle.log_item.specs.declared.Form.the-variants.{Any}
 use Rattle.log_item.specs.Got.{refused, done, _>>_}
@@ -23,7 +24,7 @@ use Rattle.log_batch.specs.Total.{agreeing}
 use Rattle.log_batch.specs.Table.{tableOf}
 use Rattle.log_batch.specs.declared.LogBatch.{LogBatch}
 use Rattle.log_batch.specs.Header.{frame, header}
-use Rattle.log_batch.specs.Batch.{blockOf, passes, frontBatch}
+use Rattle.log_batch.specs.Batch.{blockOf, frontBatch}
 use Rattle.log_batch.proofs.Accepts.{of-rejected}
 use Rattle.log_batch.proofs.Listing.{sound}
 

@@ -3,14 +3,14 @@
 use Prim.Native.Nat.{ℕ, _+_, _*_, _≤_, _<_}
 use mathlib.Core.Path.{_≡_, refl, ap, _∙_}
 use mathlib.Core.Logic.{_⊎_, inl, inr}
-use mathlib.Core.Bool.{Bool, true, false, _&&_, and-false}
+use mathlib.Core.Bool.{Bool, true, false, not, _&&_, and-false}
 use mathlib.Core.List.{List, [], _++_}
 use native.Mathlib.Omega.{arith}
 use lib.Bits.{xor-zero-r}
-use lib.Dec.{ltb, leb, eqb}
+use lib.Dec.{leb, eqb}
 use lib.ListN.{length, length-append}
-use borrow.Author.Tests.{eq-eqb, ne-eqb, le-leb, lt-leb, lt-ltb, le-ltb, leb-true, ltb-false, eqb-true, eqb-false}
-use Rattle.refusal.proofs.First.{not-first, not-second}
+use borrow.Author.Tests.{not-true, eq-eqb, ne-eqb, le-leb, lt-leb, leb-true, eqb-true, eqb-false}
+use Rattle.refusal.proofs.First.{not-second}
 use Rattle.words.specs.Word.{bigEndianBytes, littleEndianBytes}
 use Rattle.words.proofs.Words.{length-big, length-little}
 use Rattle.crc.specs.Crc.{crcOf}
@@ -93,23 +93,23 @@ module _ (m : Measured) (items : ℕ) (content : List ℕ) (room : ℕ) {r : Enc
     module _ (long : m .length ≡ 0 → ⊥) where
       pub refused-22 : 2147483647 < m .total → r ≡ encoded 22 0 0 → r ≡ batchEncoded m items content room
       unfolding batchEncoded
-      refused-22 h e = rw (something items (length content) some, ne-eqb (m .length) 0 long, lt-ltb 2147483647 (m .total) h) e
+      refused-22 h e = rw (something items (length content) some, ne-eqb (m .length) 0 long, lt-leb (m .total) 2147483647 h) e
 
       module _ (few : m .total ≤ 2147483647) where
         pub refused-20 : (m .total ≡ length content → ⊥) → r ≡ encoded 20 0 0 → r ≡ batchEncoded m items content room
         unfolding batchEncoded
-        refused-20 h e = rw (something items (length content) some, ne-eqb (m .length) 0 long, le-ltb 2147483647 (m .total) few, ne-eqb (m .total) (length content) h) e
+        refused-20 h e = rw (something items (length content) some, ne-eqb (m .length) 0 long, le-leb (m .total) 2147483647 few, ne-eqb (m .total) (length content) h) e
 
         module _ (same : m .total ≡ length content) {offset : ℕ} (there : offset ≡ bodyOffset content) where
           pub refused-21 : room < offset + m .length → r ≡ encoded 21 0 0 → r ≡ batchEncoded m items content room
           unfolding batchEncoded
           refused-21 h e =
-              rw (something items (length content) some, ne-eqb (m .length) 0 long, le-ltb 2147483647 (m .total) few, eq-eqb (m .total) (length content) same, lt-leb _ _ (rw there at h)) e
+              rw (something items (length content) some, ne-eqb (m .length) 0 long, le-leb (m .total) 2147483647 few, eq-eqb (m .total) (length content) same, lt-leb _ _ (rw there at h)) e
 
           pub written-whole : offset + m .length ≤ room → r ≡ encoded 0 0 (offset + m .length) → r ≡ batchEncoded m items content room
           unfolding batchEncoded
           written-whole h e =
-              rw (something items (length content) some, ne-eqb (m .length) 0 long, le-ltb 2147483647 (m .total) few, eq-eqb (m .total) (length content) same, le-leb _ _ (rw there at h))
+              rw (something items (length content) some, ne-eqb (m .length) 0 long, le-leb (m .total) 2147483647 few, eq-eqb (m .total) (length content) same, le-leb _ _ (rw there at h))
               (e ∙ ap (λ (n : ℕ). encoded 0 0 (n + m .length)) there)
 
 -- What an answer with a length tells.
@@ -126,17 +126,17 @@ pub planned : (m : Measured) (items : ℕ) (content : List ℕ) (room : ℕ) {r 
 unfolding batchEncoded
 planned m items content room {r} told h =
     let size : ℕ = bodyOffset content + m .length in
-    let a = not-first (eqb items 0 && eqb (length content) 0) told (some-length h) in
-    let b = not-first (eqb (m .length) 0) (a .1) (some-length h) in
-    let c = not-first (ltb 2147483647 (m .total)) (b .1) (some-length h) in
+    let a = not-second (not (eqb items 0 && eqb (length content) 0)) told (some-length h) in
+    let b = not-second (not (eqb (m .length) 0)) (a .1) (some-length h) in
+    let c = not-second (leb (m .total) 2147483647) (b .1) (some-length h) in
     let d = not-second (eqb (m .total) (length content)) (c .1) (some-length h) in
     let e = not-second (leb size room) (d .1) (some-length h) in
     let long : r .length ≡ size = ap (λ (x : Encoded). x .length) (e .1) in
-    let few = ltb-false 2147483647 (m .total) (c .0) in
+    let few = leb-true (m .total) 2147483647 (c .0) in
     let same = eqb-true (m .total) (length content) (d .0) in
     record {
       number = ap (λ (x : Encoded). x .number) (e .1);
-      some = eqb-false (m .length) 0 (b .0);
+      some = eqb-false (m .length) 0 (not-true _ (b .0));
       few = omega arith;
       total = same;
       size = long;

@@ -4,12 +4,12 @@ use Prim.Native.Nat.{ℕ, _+_, _-_, _≤_, _<_}
 use mathlib.Core.Path.{_≡_, sym, ap, _∙_}
 use mathlib.Core.List.{List, _++_}
 use native.Mathlib.Omega.{arith}
-use borrow.Author.Tests.{le-leb, lt-leb, leb-false, eq-eqb, ne-eqb, eqb-true}
+use borrow.Author.Tests.{le-leb, lt-ltb, le-ltb, ltb-true, eq-eqb, ne-eqb, eqb-true}
 use lib.Bits.{bitXor}
-use lib.Dec.{leb, eqb}
+use lib.Dec.{ltb, eqb}
 use lib.ListN.{length, drop, length-append, length-drop}
 use lib.Seq.{take-all, take-at, drop-at}
-use Rattle.refusal.proofs.First.{untaken, taken, other-answer}
+use Rattle.refusal.proofs.First.{taken, other-answer}
 use Rattle.words.specs.Word.{littleEndian, readU32}
 use Rattle.words.specs.declared.U32Read.the-variants.{Done, Eof}
 use Rattle.crc.specs.Crc.{crcOf}
@@ -21,7 +21,7 @@ use Rattle.log_batch.specs.Body.{readBody}
 module _ (b : List ℕ) (signature : ℕ) where
   pub seal-short : length b ≤ 4 → 5 ≡ sealCheck b signature
   unfolding sealCheck
-  seal-short h = rw (le-leb _ _ h)
+  seal-short h = rw (le-ltb _ _ h)
 
   module _ (long : 4 < length b) where
     -- the word at the last four bytes is the footer
@@ -40,14 +40,14 @@ module _ (b : List ℕ) (signature : ℕ) where
       unfolding sealCheck
       seal-right h =
           let f : footer b ≡ bitXor (crcOf (sealedPart b)) signature = sym (same e) ∙ h ∙ ap (λ (x : ℕ). bitXor x signature) k in
-          rw (lt-leb _ _ long, eq-eqb _ _ f)
+          rw (lt-ltb _ _ long, eq-eqb _ _ f)
 
       pub seal-wrong : (w ≡ bitXor c signature → ⊥) → 6 ≡ sealCheck b signature
       unfolding sealCheck
       seal-wrong h =
           let f : footer b ≡ bitXor (crcOf (sealedPart b)) signature → ⊥ =
           λ g. h (same e ∙ g ∙ ap (λ (x : ℕ). bitXor x signature) (sym k)) in
-          rw (lt-leb _ _ long, ne-eqb _ _ f)
+          rw (lt-ltb _ _ long, ne-eqb _ _ f)
 
     -- there are four bytes
     pub seal-there : {r : ℕ} → readU32 b (sealedLength b) ≡ Eof → r ≡ sealCheck b signature
@@ -64,9 +64,9 @@ pub record Sealed (b : List ℕ) (signature : ℕ) : Type 0 where
 pub sealed : (b : List ℕ) (signature : ℕ) → sealCheck b signature ≡ 0 → Sealed b signature
 unfolding sealCheck
 sealed b signature e =
-    let p = untaken (leb (length b) 4) 4 _ e in
+    let p = taken (ltb 4 (length b)) 4 _ e in
     let q = taken (eqb (footer b) (bitXor (crcOf (sealedPart b)) signature)) 5 0 (p .1) in
-    record { long = leb-false _ _ (p .0); right = eqb-true _ _ (q .0) }
+    record { long = ltb-true _ _ (p .0); right = eqb-true _ _ (q .0) }
 
 -- A seal that is not broken has more than four bytes.
 pub seal-long : (b : List ℕ) (signature : ℕ) → sealCheck b signature ≡ 0 → 4 < length b
@@ -89,7 +89,7 @@ pub sealed-of : (rest last : List ℕ) (signature : ℕ) → 0 < length rest →
 unfolding sealCheck
 sealed-of rest last signature some four checks =
     let long : 4 < length (rest ++ last) = omega (arith, length-append rest last) in
-    rw (lt-leb _ _ long, part-of rest last four, footer-of rest last four, eq-eqb _ _ checks)
+    rw (lt-ltb _ _ long, part-of rest last four, footer-of rest last four, eq-eqb _ _ checks)
 
 -- ---- a block
 

@@ -11,7 +11,7 @@ use lib.Bits.{bitXor, xor-lt}
 use lib.Dec.{lit<}
 use lib.ListN.{length, take, drop, length-append}
 use lib.Seq.{take-at}
-use borrow.Author.Tests.{lt-leb, ne-eqb}
+use borrow.Author.Tests.{lt-ltb, ne-eqb}
 use Rattle.codec.specs.Shortest.{shortest}
 use Rattle.words.specs.Word.{littleEndian, littleEndianBytes}
 use Rattle.words.proofs.Words.{length-little, little-endian-back}
@@ -164,7 +164,7 @@ module _ (bs : List ℕ) (bytes : Bytes bs) (a : ℕ) (small : a < 2 ^ 32) where
       let four : length last ≡ 4 = length-little 4 (bitXor (crcOf bs) a) in
       let long : 4 < length (bs ++ last) = omega (arith, length-append bs last) in
       let wrong : bitXor (crcOf bs) a ≡ bitXor (crcOf bs) b → ⊥ = λ e. other (xor-cancel-l (crcOf bs) a b e) in
-      rw (lt-leb _ _ long, part-of bs last four, footer-of bs last four, footer-back, ne-eqb _ _ wrong)
+      rw (lt-ltb _ _ long, part-of bs last four, footer-of bs last four, footer-back, ne-eqb _ _ wrong)
 
 -- ---- a list that is not refused
 

@@ -4,7 +4,8 @@ use Prim.Native.Nat.{ℕ, _-_}
 use mathlib.Core.List.{List}
 use lib.Dec.{leb, eqb}
 use lib.ListN.{length, take, drop}
-use Rattle.log_item.specs.Got.{Got, got, refused, Reading, done, _>>=_, _>>_, Test, _else_}
+use Rattle.refusal.specs.First.{passes}
+use Rattle.log_item.specs.Got.{Got, got, refused, Reading, done, _>>=_, _>>_, _else_}
 use Rattle.log_item.specs.declared.Span.{Span}
 use Rattle.log_batch.specs.declared.LogItemBatch.{LogItemBatch}
 use Rattle.log_batch.specs.declared.Wanted.the-variants.{Exactly}
@@ -22,10 +23,6 @@ blockOf h s = take (h .offset - 16) (drop 16 s)
 
 abbrev pub bodyOf : LogBatch → List ℕ → List ℕ
 bodyOf h s = take (h .len - h .offset) (drop (h .offset) s)
-
--- a check that answers a number: 0, or why it fails
-abbrev pub passes : ℕ → Test
-passes r = eqb r 0 else r
 
 -- header, 18, 19, block: the frame of a batch
 unfoldable pub frontBatch : List ℕ → Reading LogBatch

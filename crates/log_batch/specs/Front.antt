@@ -2,10 +2,11 @@
 -- Assumes nothing.
 use Prim.Native.Nat.{ℕ, _+_, _*_}
 use mathlib.Core.Path.{_≡_}
-use mathlib.Core.Bool.{cond, _&&_}
+use mathlib.Core.Bool.{not, cond, _&&_}
 use mathlib.Core.List.{List, [], _++_}
-use lib.Dec.{ltb, leb, eqb}
+use lib.Dec.{leb, eqb}
 use lib.ListN.{length}
+use Rattle.refusal.specs.First.{_else_, _>>_}
 use Rattle.words.specs.Word.{bigEndianBytes}
 use Rattle.list_writer.specs.declared.Measured.{Measured}
 use Rattle.list_writer.specs.declared.Encoded.{Encoded}
@@ -30,16 +31,19 @@ frontBytes len content = headerBytes len (bodyOffset content) ++ blockBytes cont
 
 -- nothing where there are no items and no content; else the body's refusals and its 22, 22 for the entry total, 20, 21
 unfoldable pub batchEncoded : Measured → ℕ → List ℕ → ℕ → Encoded
-batchEncoded m items content room =
-    let size = bodyOffset content + m .length in
-    cond (eqb items 0 && eqb (length content) 0) (encoded 0 0 0)
-    (cond (eqb (m .length) 0) (encoded (m .number) (m .item) 0)
-    (cond (ltb 2147483647 (m .total)) (encoded 22 0 0)
-    (cond (eqb (m .total) (length content)) (cond (leb size room) (encoded 0 0 size) (encoded 21 0 0)) (encoded 20 0 0))))
+batchEncoded m items content room = do
+  not (eqb items 0 && eqb (length content) 0) else encoded 0 0 0
+  not (eqb (m .length) 0) else encoded (m .number) (m .item) 0
+  leb (m .total) 2147483647 else encoded 22 0 0
+  eqb (m .total) (length content) else encoded 20 0 0
+  leb (bodyOffset content + m .length) room else encoded 21 0 0
+  encoded 0 0 (bodyOffset content + m .length)
 
 -- the same for a measure of any length: no body has more than 4294967295 bytes
 unfoldable pub frontEncoded : Measured → ℕ → List ℕ → ℕ → Encoded
-frontEncoded m items content room = cond (leb (m .length) 4294967295) (batchEncoded m items content room) (encoded 22 0 0)
+frontEncoded m items content room = do
+  leb (m .length) 4294967295 else encoded 22 0 0
+  batchEncoded m items content room
 
 -- the answer r to a body of the measure m, and the later contents of out: header and block, then what stood there; out as it was where
 -- nothing is written

@@ -4,8 +4,9 @@ use Prim.Native.Nat.{ℕ, _-_}
 use mathlib.Core.Bool.{cond}
 use mathlib.Core.List.{List}
 use lib.Bits.{bitXor}
-use lib.Dec.{leb, eqb}
+use lib.Dec.{ltb, eqb}
 use lib.ListN.{length, take, drop}
+use Rattle.refusal.specs.First.{_else_, _>>_}
 use Rattle.words.specs.Word.{littleEndian}
 use Rattle.crc.specs.Crc.{crcOf}
 
@@ -21,7 +22,10 @@ footer b = littleEndian (drop (sealedLength b) b)
 
 -- 5 where there are four bytes or fewer, 6 where the checksum is wrong, else 0
 unfoldable pub sealCheck : List ℕ → ℕ → ℕ
-sealCheck b signature = cond (leb (length b) 4) 5 (cond (eqb (footer b) (bitXor (crcOf (sealedPart b)) signature)) 0 6)
+sealCheck b signature = do
+  ltb 4 (length b) else 5
+  eqb (footer b) (bitXor (crcOf (sealedPart b)) signature) else 6
+  0
 
 -- a block: empty, or content and its unsigned checksum
 unfoldable pub blockCheck : List ℕ → ℕ

@@ -5,6 +5,7 @@ use mathlib.Core.Bool.{Bool, cond, _&&_}
 use mathlib.Core.List.{List, [], _∷_, _++_}
 use lib.Dec.{eqb}
 use lib.ListN.{length, getD}
+use Rattle.refusal.specs.First.{_else_, _>>_}
 use Rattle.log_item.specs.Prefix.{prefix, begins, bytesOf}
 use Rattle.log_item.specs.declared.Span.{Span}
 use Rattle.log_item.specs.declared.Op.{Op}
@@ -38,4 +39,6 @@ markOf group key Del s = NoMark
 unfoldable pub statusOf : ℕ → LogItemContent → List ℕ → StatusRead
 statusOf group (contents.EntryIndexes e) s = NoMark
 statusOf group (contents.Command c) s = NoMark
-statusOf group (contents.Kv k) s = cond (opInside s (k .key) (k .op)) (markOf group (k .key) (k .op) s) (Refused (record { number = 13; item = 0 }))
+statusOf group (contents.Kv k) s = do
+  opInside s (k .key) (k .op) else Refused (record { number = 13; item = 0 })
+  markOf group (k .key) (k .op) s

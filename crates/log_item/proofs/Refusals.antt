@@ -5,9 +5,9 @@ use mathlib.Core.Path.{_≡_, refl, sym, _∙_}
 use mathlib.Core.Bool.{Bool, true, false, cond, _&&_, and-eq-true-iff}
 use mathlib.Core.List.{List}
 use native.Mathlib.Omega.{arith}
-use lib.Dec.{ltb, leb}
-use borrow.Author.Tests.{ltb-false, lt-ltb, le-ltb, leb-true, le-leb, lt-leb}
-use Rattle.refusal.proofs.First.{neither-refused, untaken, taken}
+use lib.Dec.{leb}
+use borrow.Author.Tests.{leb-true, le-leb, lt-leb}
+use Rattle.refusal.proofs.First.{taken}
 use Rattle.log_item.specs.Entries.{entriesOf}
 use Rattle.log_item.specs.Prefix.{prefix, begins, bytesOf, inside}
 use Rattle.log_item.specs.declared.Span.{Span}
@@ -37,20 +37,20 @@ index-allowed (suc n) i e h = omega (arith, leb-true (i + n) 1844674407370955161
 module _ (used rows : ℕ) (e : EntryIndexes) where
   pub entries-14 : 1024 < used + e .count → 14 ≡ entriesRefusal used rows e
   unfolding entriesRefusal
-  entries-14 h = rw (lt-ltb 1024 (used + e .count) h)
+  entries-14 h = rw (lt-leb (used + e .count) 1024 h)
 
   pub entries-13 : used + e .count ≤ 1024 → rows - used < e .count → 13 ≡ entriesRefusal used rows e
   unfolding entriesRefusal
-  entries-13 h k = rw (le-ltb 1024 (used + e .count) h, lt-ltb (rows - used) (e .count) k)
+  entries-13 h k = rw (le-leb (used + e .count) 1024 h, lt-leb (e .count) (rows - used) k)
 
   pub entries-17 : used + e .count ≤ 1024 → e .count ≤ rows - used → e .«first_index» ≤ 18446744073709551615
       → 18446744073709551616 < e .«first_index» + e .count → 17 ≡ entriesRefusal used rows e
   unfolding entriesRefusal
-  entries-17 h k b l = rw (le-ltb 1024 (used + e .count) h, le-ltb (rows - used) (e .count) k) (index-17 (e .count) (e .«first_index») b l)
+  entries-17 h k b l = rw (le-leb (used + e .count) 1024 h, le-leb (e .count) (rows - used) k) (index-17 (e .count) (e .«first_index») b l)
 
   pub entries-fine : used + e .count ≤ 1024 → e .count ≤ rows - used → e .«first_index» + e .count ≤ 18446744073709551616 → 0 ≡ entriesRefusal used rows e
   unfolding entriesRefusal
-  entries-fine h k l = rw (le-ltb 1024 (used + e .count) h, le-ltb (rows - used) (e .count) k) (index-fine (e .count) (e .«first_index») l)
+  entries-fine h k l = rw (le-leb (used + e .count) 1024 h, le-leb (e .count) (rows - used) k) (index-fine (e .count) (e .«first_index») l)
 
 pub if-checked : (checked b : Bool) {r : Bool} → checked ≡ true → r ≡ b → r ≡ (checked && b)
 if-checked checked b e h = rw e h
@@ -138,17 +138,17 @@ module _ (s : List ℕ) (checked : Bool) (used rows : ℕ) where
   unfolding contentRefusal keyRefusal
   content-inside (contents.EntryIndexes e) h = refl
   content-inside (contents.Command c) h = refl
-  content-inside (contents.Kv k) h = taken (opInside s (k .key) (k .op)) 12 0 (neither-refused _ _ h .0) .0
+  content-inside (contents.Kv k) h = taken (opInside s (k .key) (k .op)) 12 _ h .0
 
   pub content-allowed : (k : LogItemContent) → contentRefusal s checked used rows k ≡ 0 → Allowed (entriesOf k)
   unfolding contentRefusal entriesRefusal
   content-allowed (contents.EntryIndexes e) h =
       let n : ℕ = used + e .count in
       let c : ℕ = indexRefusal (e .count) (e .«first_index») in
-      let a = untaken (ltb 1024 n) 13 (cond (ltb (rows - used) (e .count)) 13 c) h in
-      let b = untaken (ltb (rows - used) (e .count)) 12 c (a .1) in
-      let x = ltb-false _ _ (a .0) in
-      let y = ltb-false (rows - used) (e .count) (b .0) in
+      let a = taken (leb n 1024) 13 (cond (leb (e .count) (rows - used)) c 13) h in
+      let b = taken (leb (e .count) (rows - used)) 12 c (a .1) in
+      let x = leb-true _ _ (a .0) in
+      let y = leb-true (e .count) (rows - used) (b .0) in
       record { few = λ u. x; lent = λ u. omega arith; last = index-allowed (e .count) (e .«first_index») (b .1) }
   content-allowed (contents.Command c) h = record { few = λ u. omega arith; lent = λ u. omega arith; last = λ u. omega arith }
   content-allowed (contents.Kv k) h = record { few = λ u. omega arith; lent = λ u. omega arith; last = λ u. omega arith }

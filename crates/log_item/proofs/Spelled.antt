@@ -2,13 +2,13 @@
 -- Assumes nothing.
 use Prim.Native.Nat.{ℕ, zero, suc, _+_, _-_, _≤_, _<_, _^_}
 use mathlib.Core.Path.{_≡_, refl, ap, _∙_}
-use mathlib.Core.Bool.{true, false, cond, and-eq-true-iff}
+use mathlib.Core.Bool.{true, false, not, cond, and-eq-true-iff}
 use mathlib.Core.List.{List, [], _∷_, _++_, map, append-assoc}
 use native.Mathlib.Omega.{arith}
 use lib.ListN.{length, drop, length-take}
 use lib.Seq.{take-at}
 use lib.Dec.{ltb, leb, lit<}
-use borrow.Author.Tests.{ltb-false, leb-true}
+use borrow.Author.Tests.{not-true, ltb-false, leb-true}
 use Rattle.codec.specs.Shortest.{shortest}
 use Rattle.words.specs.Write.{placed}
 use Rattle.log_item.specs.Got.{got}
@@ -35,7 +35,7 @@ use Rattle.log_item.proofs.Forms.{in-form}
 use Rattle.log_item.proofs.Complete.{complete-item}
 use Rattle.log_item.specs.Bytes.{spanBytes, commandBytes, opBytes, entriesBytes, contentBytes, headBytes, tailsBytes}
 use Rattle.log_item.specs.Refusing.{opInside, contentInside, contentRefusal}
-use Rattle.refusal.proofs.First.{neither-refused, untaken, taken}
+use Rattle.refusal.proofs.First.{neither-refused, taken}
 use Rattle.log_item.specs.Written.{sumOf, rowLengths, itemBytes, tailRefusal, itemRefusal}
 use Rattle.log_item.specs.Relocated.{spanAt, keyAt, stated, contentAt, itemAt, rowsFrom, itemRows, spansOf, numbersOf, Small}
 use Rattle.log_item.proofs.Lengths.{part-length, span-length}
@@ -219,14 +219,14 @@ encode-accepted s x lengths t out at (one g z) h =
     let a = neither-refused (contentRefusal s false 0 (length lengths) (x .content)) _ h in
     let b = neither-refused (tailRefusal x lengths t) (cond (leb long (length out)) 0 21) (a .1) in
     let c = taken (leb long (length out)) 20 0 (b .1) in
-    let d = untaken (ltb 4294967295 (sumOf t (rowLengths x lengths))) 15 0 (b .0) in
+    let d = taken (not (ltb 4294967295 (sumOf t (rowLengths x lengths)))) 15 0 (b .0) in
     let allowed = content-allowed s false 0 (length lengths) (x .content) (a .0) in
     record {
       writable = record {
         spans = content-inside s false 0 (length lengths) (x .content) (a .0);
         numbers = one g z;
         lent = omega (arith, allowed .lent (omega arith));
-        tails = ltb-false _ _ (d .0);
+        tails = ltb-false _ _ (not-true _ (d .0));
       };
       room = leb-true _ _ (c .0);
       few = omega (arith, allowed .few (omega arith));

@@ -17,7 +17,7 @@ use Rattle.log_item.specs.declared.PartWrote.the-variants as part
 use Rattle.log_item.specs.Written.{pieceRefusal, PieceWritten}
 use Rattle.words.specs.Place.{At}
 use Rattle.log_item.specs.Private.{Room, Stored, fitted}
-use Rattle.refusal.proofs.First.{other-answer, neither-refused, taken}
+use Rattle.refusal.proofs.First.{other-answer, taken}
 
 sets-append : (bs cs out : List ℕ) (at : ℕ) → sets out at (bs ++ cs) ≡ sets (sets out at bs) (at + length bs) cs
 sets-append [] cs out at = let e : at ≡ at + 0 = omega arith in ap (λ (k : ℕ). sets out k cs) e
@@ -124,8 +124,8 @@ module _ (b : Bool) (out bs : List ℕ) (at : ℕ) {d : Bool} {n l r : ℕ} (sma
     pub piece-ready : (b ≡ true) × Room out at bs
     unfolding pieceRefusal
     piece-ready =
-        let p = neither-refused _ _ (sym same-refusal ∙ z) in
-        (taken b 12 0 (p .0) .0, record { fits = leb-true _ _ (taken (leb (at + length bs) (length out)) 20 0 (p .1) .0) })
+        let p = taken b 12 _ (sym same-refusal ∙ z) in
+        (p .0, record { fits = leb-true _ _ (taken (leb (at + length bs) (length out)) 20 0 (p .1) .0) })
 
     pub piece-stored : {next : ℕ} {later : List ℕ} → Stored out at bs next later → PieceWritten b bs out at (part.Next next) later
     piece-stored {next} {later} w =

@@ -2,7 +2,9 @@
 -- A definition is a list of steps; a line `test else 14` is one of them, and refuses with 14 where the test fails.
 -- Assumes nothing.
 use Prim.Native.Nat.{ℕ}
-use mathlib.Core.Bool.{Bool, true, false}
+use mathlib.Core.Bool.{true, false}
+use Rattle.refusal.specs.First.{Check}
+pub use Rattle.refusal.specs.First.{_else_}
 
 pub data Got (A : Type 0) : Type 0 where
   got : A → ℕ → Got A
@@ -36,10 +38,6 @@ module _ {A B : Type 0} where
   abbrev pub _>>=_ : Reading A → (A → Reading B) → Reading B
   _>>=_ m f = λ p. bind (m p) f
 
-infix 5 _else_
-pub data Test : Type 0 where
-  _else_ : Bool → ℕ → Test
-
-abbrev pub _>>_ : {A : Type 0} → Test → Reading A → Reading A
+abbrev pub _>>_ : {A : Type 0} → Check ℕ → Reading A → Reading A
 _>>_ (_else_ true r) m = m
 _>>_ (_else_ false r) m = refuse r

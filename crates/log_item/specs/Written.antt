@@ -2,16 +2,16 @@
 -- Assumes nothing.
 use Prim.Native.Nat.{ℕ, _+_, min}
 use mathlib.Core.Path.{_≡_}
-use mathlib.Core.Bool.{Bool, false, cond}
+use mathlib.Core.Bool.{Bool, false, not}
 use mathlib.Core.List.{List, [], _∷_, _++_}
 use lib.Dec.{ltb, leb}
 use lib.ListN.{length, take}
-use Rattle.refusal.specs.First.{firstOf, ifNone}
+use Rattle.refusal.specs.First.{_else_, _>>_, passes, ifNone}
 use Rattle.words.specs.Write.{placed}
 use Rattle.log_item.specs.Entries.{entriesOf}
 use Rattle.log_item.specs.declared.LogItem.{LogItem}
 use Rattle.log_item.specs.Bytes.{headBytes, tailsBytes}
-use Rattle.log_item.specs.Refusing.{spanRefusal, contentRefusal}
+use Rattle.log_item.specs.Refusing.{contentRefusal}
 use Rattle.log_item.specs.declared.HeadSize.{HeadSize}
 use Rattle.log_item.specs.declared.HeadSize.the-variants as head
 use Rattle.log_item.specs.declared.PartWrote.{PartWrote}
@@ -31,13 +31,12 @@ unfoldable pub measureItem : List ℕ → Bool → ℕ → ℕ → LogItem → H
 measureItem s checked used rows x =
     headOf (contentRefusal s checked used rows (x .content)) (capped (length (headBytes s x))) (entriesOf (x .content) .count)
 
--- 21 where n bytes from the place `at` on do not fit among `all`
-abbrev pub roomRefusal : ℕ → ℕ → ℕ → ℕ
-roomRefusal at n all = cond (leb (at + n) all) 0 21
-
--- of a piece of an item, whose spans lie in the store or not: 13, then 21
+-- of a piece of an item, whose spans lie in the store or not: 13, then 21 where its n bytes do not fit from the place `at` on among `all`
 unfoldable pub pieceRefusal : Bool → ℕ → ℕ → ℕ → ℕ
-pieceRefusal lies at n all = firstOf (spanRefusal lies) (roomRefusal at n all)
+pieceRefusal lies at n all = do
+  lies else 13
+  leb (at + n) all else 21
+  0
 
 -- the place after the piece, or the refusal
 abbrev pub partWrote : ℕ → ℕ → PartWrote
@@ -72,14 +71,17 @@ tailAbove lengths t = ltb 4294967295 (sumOf t lengths)
 
 -- 16 where a tail of the item is
 abbrev pub tailRefusal : LogItem → List ℕ → ℕ → ℕ
-tailRefusal x lengths t = cond (tailAbove (rowLengths x lengths) t) 16 0
+tailRefusal x lengths t = do
+  not (tailAbove (rowLengths x lengths) t) else 16
+  0
 
 -- entries 14, 13, 17, 16; a key 13; then 21
 unfoldable pub itemRefusal : List ℕ → LogItem → List ℕ → ℕ → List ℕ → ℕ → ℕ
-itemRefusal s x lengths t out at =
-    firstOf (contentRefusal s false 0 (length lengths) (x .content))
-    (firstOf (tailRefusal x lengths t)
-    (roomRefusal at (length (itemBytes s x lengths t)) (length out)))
+itemRefusal s x lengths t out at = do
+  passes (contentRefusal s false 0 (length lengths) (x .content))
+  passes (tailRefusal x lengths t)
+  leb (at + length (itemBytes s x lengths t)) (length out) else 21
+  0
 
 -- the place after the item and the total after it, or the refusal
 abbrev pub itemWrote : ℕ → ℕ → ℕ → ItemWrote

@@ -8,7 +8,7 @@ use mathlib.Core.Bool.{Bool, true, false}
 use mathlib.Core.List.{List}
 use lib.Dec.{eqb}
 use lib.ListN.{length, drop, length-drop}
-use borrow.Author.Tests.{le-ltb, eq-eqb, ne-eqb, eqb-true, eqb-false}
+use borrow.Author.Tests.{le-ltb, le-leb, eq-eqb, ne-eqb, eqb-true, eqb-false}
 use Rattle.pipe_log.specs.declared.Location.{Location}
 use Rattle.location_rules.specs.declared.Table.{Table}
 use Rattle.location_rules.specs.declared.Gate.{Gate}
@@ -36,7 +36,7 @@ module _ (rows : List Location) (t : Table) (gate : ℕ) (formed : wellFormed ro
 -- every check passes, at a place that is the count
 passed : (good isReady : Bool) (t : Table) (p o k gate : ℕ) → good ≡ true → isReady ≡ true → (o ≡ 0 → ⊥) → p ≡ t .count → answered good isReady t p o k (Gate.Given gate) ≡ record { number = 0; replaced = k; count = t .count + k }
 unfolding answered
-passed good isReady t p o k gate g r some e = rw (g, r, ne-eqb o 0 some, e, le-ltb (t .count) (t .count) (omega arith)) refl
+passed good isReady t p o k gate g r some e = rw (g, r, ne-eqb o 0 some, e, le-leb (t .count) (t .count) (omega arith), le-ltb (t .count) (t .count) (omega arith)) refl
 
 -- nothing overlaps
 none : (good isReady : Bool) (t : Table) (p o k : ℕ) (gate : Gate) → good ≡ true → isReady ≡ true → o ≡ 0 → answered good isReady t p o k gate ≡ unchanged 0 (t .count)

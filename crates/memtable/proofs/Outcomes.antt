@@ -6,10 +6,10 @@ use native.Mathlib.Nat.{pos-of-ne-zero}
 use native.Mathlib.Omega.{arith}
 use mathlib.Core.Bool.{Bool, true, false, not, cond}
 use mathlib.Core.List.{List}
-use lib.Dec.{ltb, eqb}
+use lib.Dec.{leb, eqb}
 use lib.ListN.{length, drop, length-drop}
 use lib.Seq.{paste}
-use borrow.Author.Tests.{not-false, eqb-false, ltb-false}
+use borrow.Author.Tests.{not-true, eqb-false, leb-true}
 use Rattle.pipe_log.specs.declared.Location.{Location}
 use Rattle.location_rules.specs.declared.Table.{Table}
 use Rattle.location_rules.specs.declared.Gate.{Gate}
@@ -29,15 +29,15 @@ module _ (good isReady : Bool) (t : Table) (place overlap run : ℕ) (gate : Gat
   abbrev Is : Rewritten → Type 0
   Is = Outcome good isReady t place overlap run gate
 
-  choose : (b : Bool) (x y : Rewritten) → Is x → (b ≡ false → Is y) → Is (cond b x y)
-  choose true x y p q = p
-  choose false x y p q = q refl
+  choose : (b : Bool) (x y : Rewritten) → Is x → (b ≡ true → Is y) → Is (cond b y x)
+  choose true x y p q = q refl
+  choose false x y p q = p
 
   pub outcome-of : Is (answered good isReady t place overlap run gate)
   unfolding answered
   outcome-of =
-      choose (not good) _ _ (kept 26) (λ g. choose (not isReady) _ _ (kept 27) (λ r. choose (eqb overlap 0) _ _ (kept 0) (λ o. choose (ltb (t .count) place) _ _ (kept 24) (λ p. choose (early gate place (t .count)) _ _ (kept 25)
-      (λ e. done (not-false good g) (not-false isReady r) (eqb-false overlap 0 o) (ltb-false (t .count) place p) e)))))
+      choose good _ _ (kept 26) (λ g. choose isReady _ _ (kept 27) (λ r. choose (not (eqb overlap 0)) _ _ (kept 0) (λ o. choose (leb place (t .count)) _ _ (kept 24) (λ p. choose (not (early gate place (t .count))) _ _ (kept 25)
+      (λ e. done g r (eqb-false overlap 0 (not-true _ o)) (leb-true place (t .count) p) (not-true _ e))))))
 
 module _ (rows : List Location) (t : Table) (incoming : List Location) (first : ℕ) (gate : Gate) where
   abbrev pub place : ℕ

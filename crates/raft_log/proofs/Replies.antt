@@ -1,9 +1,10 @@
 -- What is replied for each answer of a call: a law for each way out of the code.
 -- Assumes nothing.
-use Prim.Native.Nat.{ℕ}
-use mathlib.Core.Path.{_≡_, sym, ap, _∙_}
+use Prim.Native.Nat.{ℕ, zero, suc, _<_}
+use mathlib.Core.Path.{_≡_, refl, sym, ap, _∙_}
 use mathlib.Core.List.{List, [], _∷_}
-use borrow.Author.Tests.{ne-eqb}
+use native.Mathlib.Omega.{arith}
+use borrow.Author.Tests.{lt-leb}
 use lib.ListN.{getD}
 use Rattle.refusal.proofs.First.{other-answer}
 use Rattle.refusal.specs.declared.Refusal.{Refusal}
@@ -42,6 +43,11 @@ reply-refused body block e = rw e
 
 -- ---- the block that a queue names
 
+above-one : (n : ℕ) → (n ≡ 0 → ⊥) → (n ≡ 1 → ⊥) → 1 < n
+above-one zero a b = absurd (a refl)
+above-one (suc zero) a b = absurd (b refl)
+above-one (suc (suc n)) a b = omega arith
+
 module _ (queue long offset len : ℕ) (append rewrite : List ℕ) where
   pub queue-append : {r : ℕ} → queue ≡ 0 → r ≡ entryCheck long offset len append → r ≡ queueCheck queue long offset len append rewrite
   unfolding queueCheck
@@ -54,7 +60,7 @@ module _ (queue long offset len : ℕ) (append rewrite : List ℕ) where
 
     pub queue-none : (queue ≡ 1 → ⊥) → 26 ≡ queueCheck queue long offset len append rewrite
     unfolding queueCheck
-    queue-none h = rw (ne-eqb _ _ some, ne-eqb _ _ h)
+    queue-none h = rw (lt-leb queue 1 (above-one queue some h))
 
 -- ---- a location row
 

@@ -4,9 +4,9 @@ use Prim.Native.Nat.{ℕ}
 use mathlib.Core.Path.{_≡_}
 use mathlib.Core.Bool.{cond}
 use mathlib.Core.List.{List, [], _∷_}
-use lib.Dec.{eqb}
+use lib.Dec.{leb, eqb}
 use lib.ListN.{getD}
-use Rattle.refusal.specs.First.{ifNone}
+use Rattle.refusal.specs.First.{_else_, _>>_, ifNone}
 use Rattle.words.specs.declared.Wrote.{Wrote}
 use Rattle.words.specs.declared.Wrote.the-variants as wrote
 use Rattle.log_item.specs.declared.Span.{Span}
@@ -67,8 +67,9 @@ plainReply (plain.Refused r) = reply (r .number) (r .item ∷ 0 ∷ [])
 
 -- the check of an entry against the block that the queue names; a queue above 1 names none
 unfoldable pub queueCheck : ℕ → ℕ → ℕ → ℕ → List ℕ → List ℕ → ℕ
-queueCheck queue long offset len append rewrite =
-    cond (eqb queue 0) (entryCheck long offset len append) (cond (eqb queue 1) (entryCheck long offset len rewrite) 26)
+queueCheck queue long offset len append rewrite = do
+  leb queue 1 else 26
+  entryCheck long offset len (cond (eqb queue 0) append rewrite)
 
 -- place, length
 abbrev pub viewReply : ℕ → ℕ → ℕ → Reply

@@ -2,10 +2,11 @@
 -- Assumes nothing.
 use Prim.Native.Nat.{ℕ}
 use mathlib.Core.Path.{_≡_}
-use mathlib.Core.Bool.{cond, _&&_}
+use mathlib.Core.Bool.{_&&_}
 use mathlib.Core.List.{List, _++_}
 use lib.Dec.{leb}
 use lib.ListN.{length, drop}
+use Rattle.refusal.specs.First.{_else_, _>>_}
 use Rattle.item_row.specs.Row.{itemRowCount, entryRowCount, itemsWords, entriesWords}
 use Rattle.log_batch.specs.declared.BodyCheck.{BodyCheck}
 use Rattle.log_batch.specs.Reading.{Answer, accepted, rejected}
@@ -13,8 +14,9 @@ use Rattle.log_batch.specs.Answers.{checkOf}
 
 -- an answer that has more rows than are lent is a 21
 abbrev pub fitting : List ℕ → List ℕ → Answer → Answer
-fitting items entries (accepted xs rows u q) =
-    cond (leb (length xs) (itemRowCount items) && leb (length rows) (entryRowCount entries)) (accepted xs rows u q) (rejected 21 0)
+fitting items entries (accepted xs rows u q) = do
+  leb (length xs) (itemRowCount items) && leb (length rows) (entryRowCount entries) else rejected 21 0
+  accepted xs rows u q
 fitting items entries (rejected r i) = rejected r i
 
 -- the rows of the answer, then what stood there; a refused reading leaves all as it was

@@ -5,9 +5,9 @@ use mathlib.Core.Path.{_≡_, refl, sym, ap, _∙_}
 use mathlib.Core.Bool.{Bool}
 use mathlib.Core.List.{List}
 use native.Mathlib.Omega.{arith}
-use lib.Dec.{ltb, eqb}
+use lib.Dec.{leb, eqb}
 use lib.ListN.{length}
-use borrow.Author.Tests.{lt-ltb, le-ltb, eq-eqb, ne-eqb, eqb-true, ltb-false}
+use borrow.Author.Tests.{lt-leb, le-leb, eq-eqb, ne-eqb, eqb-true, leb-true}
 use Rattle.refusal.proofs.First.{not-second}
 use Rattle.item_row.specs.declared.ItemRowRead.the-variants.{Refused}
 use Rattle.item_row.specs.Row.{itemRowCount, itemOfRow}
@@ -18,33 +18,33 @@ use Rattle.list_writer.specs.Refusing.{Verdict, fine, refused, itemsVerdict, li
 use Rattle.list_writer.specs.Answers.{measured, measuredOf, measureOf}
 use Rattle.rows_writer.specs.Rows.{rowItems, entryLengths, thenRow, rowsVerdict, measureRows}
 use Rattle.rows_writer.proofs.RowItems.{items-few, row-ends}
-use Rattle.list_writer.proofs.Heads.{cond-fine}
+use Rattle.list_writer.proofs.Heads.{else-fine}
 use Rattle.list_writer.proofs.Measuring.{Measuring, sized-where, told-all, measuring-end}
 
 module _ (s : List ℕ) (checked : Bool) (items entries : List ℕ) where
   pub rows-many : 256 < itemRowCount items → measured 9 0 0 0 ≡ measureRows s checked items entries
   unfolding measureRows rowsVerdict measuredOf
-  rows-many h = rw (lt-ltb 256 (itemRowCount items) h)
+  rows-many h = rw (lt-leb (itemRowCount items) 256 h)
 
   module _ (few : itemRowCount items ≤ 256) where
     pub rows-item-refused : {n k : ℕ} → itemsVerdict s checked (rowItems items) (entryLengths entries) 0 0 0 ≡ refused n k
         → measured n k 0 0 ≡ measureRows s checked items entries
     unfolding measureRows rowsVerdict measuredOf
-    rows-item-refused e = rw (le-ltb 256 (itemRowCount items) few, e)
+    rows-item-refused e = rw (le-leb (itemRowCount items) 256 few, e)
 
     pub rows-bad : {t i r : ℕ} → itemsVerdict s checked (rowItems items) (entryLengths entries) 0 0 0 ≡ fine t → length (rowItems items) ≡ i → i < itemRowCount items
         → itemOfRow items i ≡ Refused r → measured r i 0 0 ≡ measureRows s checked items entries
     unfolding measureRows rowsVerdict measuredOf
     rows-bad {t} {i} {r} e same more bad =
         let other : i ≡ itemRowCount items → ⊥ = λ q. omega arith in
-        rw (le-ltb 256 (itemRowCount items) few, e, same, ne-eqb i (itemRowCount items) other, bad)
+        rw (le-leb (itemRowCount items) 256 few, e, same, ne-eqb i (itemRowCount items) other, bad)
 
     pub rows-all : length (rowItems items) ≡ itemRowCount items
         → measureOf s checked (rowItems items) (entryLengths entries) ≡ measureRows s checked items entries
     unfolding measureRows rowsVerdict measureOf listVerdict
     rows-all same =
         let small : length (rowItems items) ≤ 256 = omega arith in
-        rw (le-ltb 256 (itemRowCount items) few, le-ltb 256 (length (rowItems items)) small)
+        rw (le-leb (itemRowCount items) 256 few, le-leb (length (rowItems items)) 256 small)
         (ap (λ (v : Verdict). measuredOf v (length (listBytes s (rowItems items) (entryLengths entries)))) (sym (go (itemsVerdict s checked (rowItems items) (entryLengths entries) 0 0 0))))
       where
         go : (v : Verdict) → thenRow items (length (rowItems items)) v ≡ v
@@ -57,9 +57,9 @@ module _ (s : List ℕ) (checked : Bool) (items entries : List ℕ) where
   unfolding measureRows rowsVerdict
   rows-accepted {m} e h =
       let v = sized-where _ (length (listBytes s (rowItems items) (entryLengths entries))) e h .told in
-      let k = cond-fine (ltb 256 (itemRowCount items)) 9 0 (thenRow items (length (rowItems items)) (itemsVerdict s checked (rowItems items) (entryLengths entries) 0 0 0)) _ v in
+      let k = else-fine (leb (itemRowCount items) 256) 9 0 (thenRow items (length (rowItems items)) (itemsVerdict s checked (rowItems items) (entryLengths entries) 0 0 0)) _ v in
       let same = go (itemsVerdict s checked (rowItems items) (entryLengths entries) 0 0 0) (k .1) in
-      (same, e ∙ sym (rows-all (ltb-false 256 (itemRowCount items) (k .0)) same))
+      (same, e ∙ sym (rows-all (leb-true (itemRowCount items) 256 (k .0)) same))
     where
       go : {u : ℕ} (v : Verdict) → thenRow items (length (rowItems items)) v ≡ fine u → length (rowItems items) ≡ itemRowCount items
       go (fine t) q =

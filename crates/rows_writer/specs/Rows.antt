@@ -2,10 +2,11 @@
 -- refused at its turn.
 -- Assumes nothing.
 use Prim.Native.Nat.{ℕ, zero, suc, _+_, _*_}
-use mathlib.Core.Bool.{Bool, cond}
+use mathlib.Core.Bool.{Bool}
 use mathlib.Core.List.{List, [], _∷_}
-use lib.Dec.{ltb, eqb}
+use lib.Dec.{leb, eqb}
 use lib.ListN.{length, getD}
+use Rattle.refusal.specs.First.{_else_, _>>_}
 use Rattle.log_item.specs.declared.LogItem.{LogItem}
 use Rattle.item_row.specs.declared.ItemRowRead.{ItemRowRead}
 use Rattle.item_row.specs.declared.ItemRowRead.the-variants.{Item, Refused}
@@ -44,14 +45,16 @@ rowNumber (Refused r) = r
 
 -- the verdict on the items, then the row behind them where there is one
 abbrev pub thenRow : List ℕ → ℕ → Verdict → Verdict
-thenRow words k (fine t) = cond (eqb k (itemRowCount words)) (fine t) (refused (rowNumber (itemOfRow words k)) k)
+thenRow words k (fine t) = do
+  eqb k (itemRowCount words) else refused (rowNumber (itemOfRow words k)) k
+  fine t
 thenRow words k (refused number item) = refused number item
 
 -- 9, then the rows
 unfoldable pub rowsVerdict : List ℕ → Bool → List ℕ → List ℕ → Verdict
-rowsVerdict s checked words lengths =
-    cond (ltb 256 (itemRowCount words)) (refused 9 0)
-    (thenRow words (length (rowItems words)) (itemsVerdict s checked (rowItems words) lengths 0 0 0))
+rowsVerdict s checked words lengths = do
+  leb (itemRowCount words) 256 else refused 9 0
+  thenRow words (length (rowItems words)) (itemsVerdict s checked (rowItems words) lengths 0 0 0)
 
 -- the first refusal but 21, or the body's length and the entry total
 unfoldable pub measureRows : List ℕ → Bool → List ℕ → List ℕ → Measured
