@@ -16,7 +16,6 @@ use log_batch::sealed_len;
 use log_item::EntryIndex;
 use log_item::EntryIndexes;
 use log_item::Field;
-use log_item::Form;
 use log_item::ItemRead;
 use log_item::LogItem;
 use log_item::TailRead;
@@ -219,7 +218,7 @@ pub fn next_row(body: &[u8], rows: EntryRows) -> RowRead
     let total = rows.total;
     let index = rows.index;
     let n = sealed_len(body.len());
-    match EntryIndexes::decode_tail(&body[..n], rows.at, total, Form::Any) {
+    match EntryIndexes::decode_tail(&body[..n], rows.at, total) {
         TailRead::Done { total: after, next } => RowRead::Row {
             row: EntryIndex {
                 index,
@@ -310,7 +309,7 @@ fn handed_out(item: LogItem, tails: usize, total: u32) -> Next
 fn after_count(buf: &[u8]) -> usize
     ensures { λ r. ⌜ r ≡ afterCount (now (buf .entry)) ⌝ }
 {
-    match log_item::read_number(buf, 0, Form::Any) {
+    match log_item::read_number(buf, 0) {
         Field::Done { value: _, next } => next,
         Field::Refused(_) => 0,
     }

@@ -15,6 +15,10 @@ use log_item::LogItem;
 use log_item::Passed;
 use refusal::Refusal;
 
+// What Form::Plain alone refuses, by the definitions' number. Document 01 has no such number, and no caller of this crate sees it: plain
+// answers No.
+const NOT_SHORTEST: u32 = 8;
+
 // What a body without its footer holds, with no table.
 pub fn check_items(buf: &[u8]) -> BodyCheck
     ensures { λ r. ⌜ r ≡ checkOf (readItems Form.Any (now (buf .entry))) ⌝ }
@@ -77,8 +81,13 @@ fn check_form(buf: &[u8], form: Form) -> BodyCheck
 pub(crate) fn read_item_count(buf: &[u8], form: Form) -> Field
     ensures { λ r. ⌜ fieldGot r ≡ count form (now (buf .entry)) 0 ⌝ }
 {
-    match log_item::read_number(buf, 0, form) {
+    match log_item::read_number(buf, 0) {
         Field::Done { value, next } => {
+            if let Form::Plain = form {
+                if next != codec::var_u64_len(value) {
+                    return Field::Refused(NOT_SHORTEST);
+                }
+            }
             if 256 < value {
                 return Field::Refused(refusal::ITEMS_TOO_MANY);
             }
@@ -110,6 +119,12 @@ fn check_from(buf: &[u8], start: usize, count: usize, form: Form) -> BodyCheck
             }
             Passed::Refused(number) => {
                 return BodyCheck::Refused(Refusal { number, item: i });
+            }
+            Passed::Padded => {
+                return BodyCheck::Refused(Refusal {
+                    number: NOT_SHORTEST,
+                    item: i,
+                });
             }
         }
     }

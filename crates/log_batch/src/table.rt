@@ -110,7 +110,7 @@ impl LogItemBatch {
         let mut index: u64 = 0;
         loop {
             if 0 < tails {
-                match EntryIndexes::decode_tail(buf, at, total, Form::Any) {
+                match EntryIndexes::decode_tail(buf, at, total) {
                     TailRead::Refused(number) => {
                         return LogItemBatch::empty(number, i - 1);
                     }
@@ -128,7 +128,7 @@ impl LogItemBatch {
                     }
                 }
             } else if i < many {
-                match LogItem::decode_head(buf, at, j, Form::Any) {
+                match LogItem::decode_head(buf, at, j) {
                     HeadRead::Refused(number) => {
                         return LogItemBatch::empty(number, i);
                     }

@@ -1,19 +1,14 @@
 -- No second answer: two results, and two later contents of a lent buffer, that meet one contract are equal.
 -- Assumes nothing.
-use Prim.Native.Nat.{ℕ}
 use mathlib.Core.Path.{_≡_, sym, _∙_, ap}
 use Rattle.one_answer.specs.OneAnswer.{OneAnswer}
-use Rattle.log_item.specs.Answers.{fieldGot, spanGot, Counted, headGot, tailGot, itemGot, passedGot}
+use Rattle.log_item.specs.Answers.{fieldGot, Counted, headGot, tailGot, itemGot}
 use Rattle.log_item.specs.declared.Field.{Field}
 use Rattle.log_item.specs.declared.Field.the-variants as field
-use Rattle.log_item.specs.declared.SpanRead.{SpanRead}
-use Rattle.log_item.specs.declared.SpanRead.the-variants as span
 use Rattle.log_item.proofs.piece.read_number.Kinds as read-number-kinds
 use Rattle.log_item.proofs.piece.read_number.Reads as read-number-reads
 use Rattle.log_item.proofs.piece.read_byte.Kinds as read-byte-kinds
 use Rattle.log_item.proofs.piece.read_byte.Reads as read-byte-reads
-use Rattle.log_item.proofs.piece.read_span.Kinds as read-span-kinds
-use Rattle.log_item.proofs.piece.read_span.Reads as read-span-reads
 use Rattle.log_item.proofs.prefix.lies_in.Kinds as lies-in-kinds
 use Rattle.log_item.proofs.prefix.lies_in.Reads as lies-in-reads
 use Rattle.log_item.proofs.prefix.starts_with.Kinds as starts-with-kinds
@@ -25,8 +20,6 @@ use Rattle.log_item.specs.declared.TailRead.{TailRead}
 use Rattle.log_item.specs.declared.TailRead.the-variants as tail
 use Rattle.log_item.specs.declared.ItemRead.{ItemRead}
 use Rattle.log_item.specs.declared.ItemRead.the-variants as item
-use Rattle.log_item.specs.declared.Passed.{Passed}
-use Rattle.log_item.specs.declared.Passed.the-variants as passed
 use Rattle.log_item.proofs.LogItem.decode.Kinds as decode-kinds
 use Rattle.log_item.proofs.LogItem.decode.Reads as decode-reads
 use Rattle.log_item.proofs.LogItem.pass.Kinds as pass-kinds
@@ -57,20 +50,11 @@ field-same (field.Done x q) (field.Refused r) e = cc
 field-same (field.Refused r) (field.Done x q) e = cc
 field-same (field.Refused r) (field.Refused x) e = cc
 
-span-same : (a b : SpanRead) → spanGot a ≡ spanGot b → a ≡ b
-span-same (span.Done x q) (span.Done y z) e = cc
-span-same (span.Done x q) (span.Refused r) e = cc
-span-same (span.Refused r) (span.Done x q) e = cc
-span-same (span.Refused r) (span.Refused x) e = cc
-
 pub read-number : OneAnswer 1 read-number-kinds.ps read-number-kinds.r read-number-reads.Post (λ κs x y s t. x ≡ y)
 read-number κs a x y s t p q = field-same x y (p ∙ sym q)
 
 pub read-byte : OneAnswer 1 read-byte-kinds.ps read-byte-kinds.r read-byte-reads.Post (λ κs x y s t. x ≡ y)
 read-byte κs a x y s t p q = field-same x y (p ∙ sym q)
-
-pub read-span : OneAnswer 1 read-span-kinds.ps read-span-kinds.r read-span-reads.Post (λ κs x y s t. x ≡ y)
-read-span κs a x y s t p q = span-same x y (p ∙ sym q)
 
 pub lies-in : OneAnswer 1 lies-in-kinds.ps lies-in-kinds.r lies-in-reads.Post (λ κs x y s t. x ≡ y)
 lies-in κs a x y s t p q = p ∙ sym q
@@ -103,21 +87,11 @@ item-same (item.Done x j q u n) (item.Refused r) e = cc
 item-same (item.Refused r) (item.Done x j q u n) e = cc
 item-same (item.Refused r) (item.Refused x) e = cc
 
-passed-same : (a b : Passed) → passedGot a ≡ passedGot b → a ≡ b
-passed-same (passed.Done q u n) (passed.Done z v m) e =
-    let p : _≡_ {A = ℕ × ℕ} (u, n) (v, m) = cc in
-    let t : u ≡ v = ap (λ (a : ℕ × ℕ). a .0) p in
-    let k : n ≡ m = ap (λ (a : ℕ × ℕ). a .1) p in
-    cc
-passed-same (passed.Done q u n) (passed.Refused r) e = cc
-passed-same (passed.Refused r) (passed.Done q u n) e = cc
-passed-same (passed.Refused r) (passed.Refused x) e = cc
-
 pub decode : OneAnswer 1 decode-kinds.ps decode-kinds.r decode-reads.Post (λ κs x y s t. x ≡ y)
 decode κs a x y s t p q = item-same x y (p ∙ sym q)
 
 pub pass : OneAnswer 1 pass-kinds.ps pass-kinds.r pass-reads.Post (λ κs x y s t. x ≡ y)
-pass κs a x y s t p q = passed-same x y (p ∙ sym q)
+pass κs a x y s t p q = p ∙ sym q
 
 pub decode-head : OneAnswer 1 decode-head-kinds.ps decode-head-kinds.r decode-head-reads.Post (λ κs x y s t. x ≡ y)
 decode-head κs a x y s t p q = head-same x y (p ∙ sym q)

@@ -1,6 +1,6 @@
 pub mod Holds
-pub mod Pieces
 pub mod NumberGot
+pub mod Pieces
 pub mod Starts
 pub mod Every
 pub mod Reading

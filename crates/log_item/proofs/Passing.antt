@@ -3,18 +3,23 @@
 use Prim.Native.Nat.{ℕ, zero, suc, _+_}
 use mathlib.Core.Path.{_≡_, refl, sym, ap, _∙_}
 use mathlib.Core.List.{List}
+use mathlib.Core.Bool.{Bool, true, false, cond}
 use native.Mathlib.Nat.{add-zero}
+use borrow.Author.Tests.{ne-eqb}
+use lib.Dec.{eqb, eqb→eq}
 use Rattle.log_item.specs.Got.{Got, got, refused, Reading, done, bind}
 use Rattle.log_item.specs.Entries.{entriesOf}
 use Rattle.log_item.specs.Pieces.{byte, number}
 use Rattle.log_item.specs.Reading.{firstIndex, entryCount, entryIndexes, content, head}
-use Rattle.log_item.specs.Answers.{Counted, passItem}
-use Rattle.log_item.specs.Private.{passTails, passStated, passEntries, passContent}
+use Rattle.log_item.specs.Answers.{Counted, passItem, passedOf}
+use Rattle.log_item.specs.Private.{passedGot, passTails, passStated, passEntries, passContent}
 use Rattle.log_item.specs.declared.Form.{Form}
 use Rattle.log_item.specs.declared.EntryIndexes.{EntryIndexes}
 use Rattle.log_item.specs.declared.LogItem.{LogItem}
 use Rattle.log_item.specs.declared.LogItemContent.{LogItemContent}
 use Rattle.log_item.specs.declared.LogItemContent.the-variants as contents
+use Rattle.log_item.specs.declared.Passed.{Passed}
+use Rattle.log_item.specs.declared.Passed.the-variants as passed
 use Rattle.log_item.proofs.Holds.{Holds, holds, later, at-most, of-got}
 use Rattle.log_item.proofs.Reading.{entries-first, entries-no-count, head-done, head-no-content, head-no-type, head-refused}
 use Rattle.log_item.proofs.Counted.{passing, pass-end, item-rows, item-no-head}
@@ -106,3 +111,20 @@ module _ (form : Form) (s : List ℕ) where
                 by-tails (record { «raft_group_id» = g; content = c }) y (e + entriesOf c .count) (passTails form s (entriesOf c .count) t y)
                 ∙ ap (λ m. bind m (λ r. done (r .total, r .used))) (sym (item-rows form s e t p (sym (head-done form s e p f h k)) refl))
             go (refused r) k = no-head (head-no-content form s e p f h k)
+
+-- ---- the answer, and what it tells of the reading
+
+module _ (g : Got (ℕ × ℕ)) where
+  pub padded : {r : ℕ} → g ≡ refused r → r ≡ 8 → passed.Padded ≡ passedOf g
+  padded e h = rw (e, h)
+
+  pub not-padded : {r : ℕ} → g ≡ refused r → (r ≡ 8 → ⊥) → passed.Refused r ≡ passedOf g
+  not-padded e h = rw (e, ne-eqb _ _ h)
+
+pub passed-got : (g : Got (ℕ × ℕ)) {r : Passed} → r ≡ passedOf g → passedGot r ≡ g
+passed-got (got (u, e) q) h = rw h
+passed-got (refused x) h = rw h (go (eqb x 8) refl)
+  where
+    go : (b : Bool) → eqb x 8 ≡ b → passedGot (cond b passed.Padded (passed.Refused x)) ≡ refused x
+    go true k = ap (λ n. refused n) (sym (eqb→eq x 8 (rw k tt)))
+    go false k = refl

@@ -10,11 +10,11 @@ use Rattle.codec.specs.Number.{readNumber}
 use Rattle.codec.specs.Shortest.{shortest}
 use Rattle.codec.specs.declared.NumberRead.{NumberRead}
 use Rattle.codec.specs.declared.NumberRead.the-variants.{Done}
-use Rattle.codec.proofs.Theorems.{read-moves}
 use Rattle.log_item.specs.Got.{got, refused}
 use Rattle.log_item.specs.Pieces.{numberGot, byte, number, span}
 use Rattle.log_item.specs.declared.Form.{Form}
 use Rattle.log_item.specs.declared.Form.the-variants.{Any, Plain}
+use Rattle.log_item.proofs.NumberGot.{number-inside}
 
 -- What a call's result r, known to be d, says of what the call promised.
 pub learnt : {R A : Type 0} (f : R → A) {r d : R} {m : A} → f r ≡ m → r ≡ d → m ≡ f d
@@ -37,24 +37,35 @@ module _ {form : Form} (s : List ℕ) (p : ℕ) where
   unfolding number
   number-any f e = rw (f, e)
 
-  pub number-plain : {n q l : ℕ} → form ≡ Plain → readNumber s p ≡ Done n q → l ≡ length (shortest n) → q - p ≡ l → got n q ≡ number form s p
-  unfolding number
-  number-plain {n} {q} {l} f e k d =
-      let m = read-moves s p n q e in
-      let same : q ≡ p + length (shortest n) = omega arith in
-      rw (f, e, eq-eqb _ _ same)
+  -- A number that was read in any spelling, asked for in a form.
+  module _ {n q : ℕ} (e : number Any s p ≡ got n q) where
+    pub number-taken : form ≡ Any → got n q ≡ number form s p
+    number-taken f = rw f (sym e)
 
-  pub number-padded : {n q l : ℕ} → form ≡ Plain → readNumber s p ≡ Done n q → l ≡ length (shortest n) → (q - p ≡ l → ⊥) → refused 8 ≡ number form s p
-  unfolding number
-  number-padded {n} {q} {l} f e k d =
-      let m = read-moves s p n q e in
-      let other : q ≡ p + length (shortest n) → ⊥ = λ same. d (omega arith) in
-      rw (f, e, ne-eqb _ _ other)
+    module _ {l : ℕ} (f : form ≡ Plain) (k : l ≡ length (shortest n)) where
+      pub number-plain : q - p ≡ l → got n q ≡ number form s p
+      unfolding number
+      number-plain d =
+          let m = number-inside Any s p e in
+          let same : q ≡ p + length (shortest n) = omega arith in
+          rw (f, e, eq-eqb _ _ same)
 
-pub number-broken : (form : Form) (s : List ℕ) (p : ℕ) {r : NumberRead} → readNumber s p ≡ r → numberGot r ≡ refused 7 → refused 7 ≡ number form s p
+      pub number-padded : (q - p ≡ l → ⊥) → refused 8 ≡ number form s p
+      unfolding number
+      number-padded d =
+          let m = number-inside Any s p e in
+          let other : q ≡ p + length (shortest n) → ⊥ = λ same. d (omega arith) in
+          rw (f, e, ne-eqb _ _ other)
+
+pub number-broken : (s : List ℕ) (p : ℕ) {r : NumberRead} → readNumber s p ≡ r → numberGot r ≡ refused 7 → refused 7 ≡ number Any s p
 unfolding number
-number-broken Any s p e k = rw (e, k)
-number-broken Plain s p e k = rw (e, k)
+number-broken s p e k = rw (e, k)
+
+-- What is refused in any spelling is refused in each form.
+pub number-refused : (form : Form) (s : List ℕ) (p : ℕ) {r : ℕ} → number Any s p ≡ refused r → refused r ≡ number form s p
+unfolding number
+number-refused Any s p e = sym e
+number-refused Plain s p e = rw e
 
 -- ---- a span
 

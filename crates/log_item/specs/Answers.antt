@@ -2,16 +2,15 @@
 -- or no item, the readings with these forgotten.
 -- Assumes nothing.
 use Prim.Native.Nat.{ℕ, _+_}
+use mathlib.Core.Bool.{cond}
 use mathlib.Core.List.{List}
+use lib.Dec.{eqb}
 use lib.ListN.{length}
 use Rattle.log_item.specs.Got.{Got, got, refused, Reading, done, here, _>>=_}
 use Rattle.log_item.specs.Reading.{head, withTails}
 use Rattle.log_item.specs.declared.Form.{Form}
-use Rattle.log_item.specs.declared.Span.{Span}
 use Rattle.log_item.specs.declared.Field.{Field}
 use Rattle.log_item.specs.declared.Field.the-variants as field
-use Rattle.log_item.specs.declared.SpanRead.{SpanRead}
-use Rattle.log_item.specs.declared.SpanRead.the-variants as span
 use Rattle.log_item.specs.declared.LogItem.{LogItem}
 use Rattle.log_item.specs.declared.HeadRead.{HeadRead}
 use Rattle.log_item.specs.declared.HeadRead.the-variants as headRead
@@ -25,10 +24,6 @@ use Rattle.log_item.specs.declared.Passed.the-variants as passed
 abbrev pub fieldGot : Field → Got ℕ
 fieldGot (field.Done v q) = got v q
 fieldGot (field.Refused r) = refused r
-
-abbrev pub spanGot : SpanRead → Got Span
-spanGot (span.Done x q) = got x q
-spanGot (span.Refused r) = refused r
 
 abbrev pub headGot : HeadRead → Got LogItem
 headGot (headRead.Done x q) = got x q
@@ -57,13 +52,13 @@ countedItem form s e t = do
   r ← withTails form s x t
   done (record { item = r .item; tailsAt = p; total = r .total; used = e + length (r .rows) })
 
--- what going over an item answers
-abbrev pub passedGot : Passed → Got (ℕ × ℕ)
-passedGot (passed.Done q u e) = got (u, e) q
-passedGot (passed.Refused r) = refused r
-
 -- the total and the number of entries after an item; the item and the place of its tails are forgotten
 unfoldable pub passItem : Form → List ℕ → ℕ → ℕ → Reading (ℕ × ℕ)
 passItem form s e t = do
   r ← countedItem form s e t
   done (r .total, r .used)
+
+-- what going over an item answers: 8, which is no number of document 01, is a case of its own
+abbrev pub passedOf : Got (ℕ × ℕ) → Passed
+passedOf (got (u, e) q) = passed.Done q u e
+passedOf (refused r) = cond (eqb r 8) passed.Padded (passed.Refused r)

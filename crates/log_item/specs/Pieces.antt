@@ -30,7 +30,7 @@ byte s = do
 abbrev pub anyNumber : List ℕ → Reading ℕ
 anyNumber s p = numberGot (readNumber s p)
 
--- a number in the form asked for. What Plain alone refuses has the number 8, which document 01 leaves free; the plain-form test answers no there
+-- a number in the form asked for. What Plain alone refuses has the number 8, which document 01 leaves free; no caller sees it, since going over an item has a case of its own there
 unfoldable pub number : Form → List ℕ → Reading ℕ
 number Any s = anyNumber s
 number Plain s = do

@@ -24,16 +24,24 @@ use Rattle.log_item.specs.declared.Form.{Form}
 use Rattle.log_item.specs.declared.Command.{Command}
 use Rattle.log_item.specs.declared.KeyValue.{KeyValue}
 use Rattle.log_item.specs.declared.EntryIndexes.{EntryIndexes}
+use Rattle.log_item.specs.declared.SpanRead.{SpanRead}
+use Rattle.log_item.specs.declared.SpanRead.the-variants as spanRead
 use Rattle.log_item.specs.declared.CommandRead.{CommandRead}
 use Rattle.log_item.specs.declared.CommandRead.the-variants as command
 use Rattle.log_item.specs.declared.KeyValueRead.{KeyValueRead}
 use Rattle.log_item.specs.declared.KeyValueRead.the-variants as keyValue
 use Rattle.log_item.specs.declared.EntryIndexesRead.{EntryIndexesRead}
 use Rattle.log_item.specs.declared.EntryIndexesRead.the-variants as entries
+use Rattle.log_item.specs.declared.Passed.{Passed}
+use Rattle.log_item.specs.declared.Passed.the-variants as passed
 use Rattle.log_item.specs.declared.ContentRead.{ContentRead}
 use Rattle.log_item.specs.declared.ContentRead.the-variants as contentRead
 
--- what the readers of contents answer, in the words of the definitions
+-- what the readers of spans and contents answer, in the words of the definitions
+abbrev pub spanGot : SpanRead → Got Span
+spanGot (spanRead.Done x q) = got x q
+spanGot (spanRead.Refused r) = refused r
+
 abbrev pub commandGot : CommandRead → Got Command
 commandGot (command.Done x q) = got x q
 commandGot (command.Refused r) = refused r
@@ -49,6 +57,12 @@ entriesGot (entries.Refused r) = refused r
 abbrev pub contentGot : ContentRead → Got LogItemContent
 contentGot (contentRead.Done x q) = got x q
 contentGot (contentRead.Refused r) = refused r
+
+-- what the ways over an item and its parts answer
+abbrev pub passedGot : Passed → Got (ℕ × ℕ)
+passedGot (passed.Done q u e) = got (u, e) q
+passedGot (passed.Refused r) = refused r
+passedGot passed.Padded = refused 8
 
 -- n tails without their rows: the total after them. The indexes do not matter
 unfoldable pub passTails : Form → List ℕ → ℕ → ℕ → Reading ℕ

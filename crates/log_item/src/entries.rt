@@ -9,14 +9,14 @@ use crate::EntryIndexesRead;
 use crate::Field;
 use crate::Form;
 use crate::TailRead;
-use crate::piece::read_number;
+use crate::piece::read_number_in;
 use words::wide;
 
 // A count of entries, with `used` before them in the batch.
 pub(crate) fn read_count(buf: &[u8], at: usize, used: usize, form: Form) -> Field
     ensures { λ r. ⌜ fieldGot r ≡ entryCount form (now (buf .entry)) used at ⌝ }
 {
-    match read_number(buf, at, form) {
+    match read_number_in(buf, at, form) {
         Field::Done { value, next } => {
             if 1024 < used {
                 return Field::Refused(refusal::ENTRIES_TOO_MANY);
@@ -43,7 +43,7 @@ pub(crate) fn read_first_index(buf: &[u8], at: usize, count: usize, form: Form) 
             next: at,
         };
     }
-    match read_number(buf, at, form) {
+    match read_number_in(buf, at, form) {
         Field::Done {
             value: first_index,
             next,
@@ -116,5 +116,5 @@ fn read_tail(buf: &[u8], at: usize, form: Form) -> Field
             }
         }
     }
-    read_number(buf, at, form)
+    read_number_in(buf, at, form)
 }

@@ -1,8 +1,7 @@
 // One item of a log batch: its types, reading it at a place of a lent body, and writing it at a place of a lent buffer. From log_batch.rs,
 // EntryIndexes to LogItem.
 //
-// Every public function takes any arguments: a place may lie anywhere, past the end too. A refusal is a number of document 01, or 8
-// where Form::Plain alone refuses.
+// Every public function takes any arguments: a place may lie anywhere, past the end too. A refusal is a number of document 01.
 mod entries;
 mod keys;
 mod measuring;
@@ -14,7 +13,6 @@ mod writing;
 
 pub use piece::read_byte;
 pub use piece::read_number;
-pub use piece::read_span;
 pub use prefix::INTERNAL_KEY_PREFIX;
 pub use prefix::lies_in;
 pub use prefix::starts_with;
@@ -26,6 +24,7 @@ ghost use Rattle.log_item.specs.Answers.{headGot, tailGot, itemGot, coun
 use entries::read_count;
 use entries::read_first_index;
 use entries::skip_tails;
+use piece::read_number_in;
 
 // Where bytes stand in the body.
 pub struct Span {
@@ -46,7 +45,7 @@ pub enum Field {
 }
 
 // A span, and the place after it; or why it is refused.
-pub enum SpanRead {
+enum SpanRead {
     Done { span: Span, next: usize },
     Refused(u32),
 }
@@ -104,7 +103,8 @@ pub enum ItemRead {
     Refused(u32),
 }
 
-// The place after an item, and the total and the number of entries after it; or why it is refused.
+// The place after an item, and the total and the number of entries after it; or why it is refused; or that the first number which is
+// not taken is padded, where the shortest spelling was asked for.
 pub enum Passed {
     Done {
         next: usize,
@@ -112,6 +112,7 @@ pub enum Passed {
         used: usize,
     },
     Refused(u32),
+    Padded,
 }
 
 // An item up to its tails, and the place after that; or why it is refused.
@@ -180,7 +181,7 @@ impl LogItem {
     pub fn decode(buf: &[u8], at: usize, total: u32, used: usize) -> ItemRead
         ensures { λ r. ⌜ itemGot r ≡ countedItem Form.Any (now (buf .entry)) used total at ⌝ }
     {
-        match LogItem::decode_head(buf, at, used, Form::Any) {
+        match LogItem::decode_head(buf, at, used) {
             HeadRead::Done { item, next: tails } => {
                 let entries = item.entries();
                 let count = entries.count;
@@ -200,15 +201,15 @@ impl LogItem {
     }
 
     // The item at a place up to its tails, with `used` entries before it in the batch.
-    pub fn decode_head(buf: &[u8], at: usize, used: usize, form: Form) -> HeadRead
-        ensures { λ r. ⌜ headGot r ≡ head form (now (buf .entry)) used at ⌝ }
+    pub fn decode_head(buf: &[u8], at: usize, used: usize) -> HeadRead
+        ensures { λ r. ⌜ headGot r ≡ head Form.Any (now (buf .entry)) used at ⌝ }
     {
-        match read_number(buf, at, form) {
+        match read_number(buf, at) {
             Field::Done { value: group, next } => match read_byte(buf, next) {
                 Field::Done {
                     value: kind,
                     next: start,
-                } => match read_content(buf, start, used, kind, form) {
+                } => match read_content(buf, start, used, kind) {
                     ContentRead::Done { content, next: end } => HeadRead::Done {
                         item: LogItem {
                             raft_group_id: group,
@@ -245,10 +246,10 @@ impl LogItem {
 
 impl EntryIndexes {
     // The tail at a place, with the total `before` it.
-    pub fn decode_tail(buf: &[u8], at: usize, before: u32, form: Form) -> TailRead
-        ensures { λ r. ⌜ tailGot r ≡ tail form (now (buf .entry)) before at ⌝ }
+    pub fn decode_tail(buf: &[u8], at: usize, before: u32) -> TailRead
+        ensures { λ r. ⌜ tailGot r ≡ tail Form.Any (now (buf .entry)) before at ⌝ }
     {
-        match read_number(buf, at, form) {
+        match read_number(buf, at) {
             Field::Done { value, next } => {
                 if 4294967295 < value {
                     return TailRead::Refused(refusal::TAIL_TOO_LARGE);
@@ -264,11 +265,11 @@ impl EntryIndexes {
     }
 
     // A count of entries, with `used` before them in the batch, and their first index.
-    fn decode(buf: &[u8], at: usize, used: usize, form: Form) -> EntryIndexesRead
-        ensures { λ r. ⌜ entriesGot r ≡ entryIndexes form (now (buf .entry)) used at ⌝ }
+    fn decode(buf: &[u8], at: usize, used: usize) -> EntryIndexesRead
+        ensures { λ r. ⌜ entriesGot r ≡ entryIndexes Form.Any (now (buf .entry)) used at ⌝ }
     {
-        match read_count(buf, at, used, form) {
-            Field::Done { value, next } => read_first_index(buf, next, value as usize, form),
+        match read_count(buf, at, used, Form::Any) {
+            Field::Done { value, next } => read_first_index(buf, next, value as usize, Form::Any),
             Field::Refused(number) => EntryIndexesRead::Refused(number),
         }
     }
@@ -287,7 +288,7 @@ impl Command {
                     };
                 }
                 if kind == 2 {
-                    return match read_number(buf, next, form) {
+                    return match read_number_in(buf, next, form) {
                         Field::Done {
                             value: index,
                             next: end,
@@ -306,11 +307,11 @@ impl Command {
 }
 
 // The content of an item of a type.
-fn read_content(buf: &[u8], at: usize, used: usize, kind: u64, form: Form) -> ContentRead
-    ensures { λ r. ⌜ contentGot r ≡ content form (now (buf .entry)) used kind at ⌝ }
+fn read_content(buf: &[u8], at: usize, used: usize, kind: u64) -> ContentRead
+    ensures { λ r. ⌜ contentGot r ≡ content Form.Any (now (buf .entry)) used kind at ⌝ }
 {
     if kind == 1 {
-        return match EntryIndexes::decode(buf, at, used, form) {
+        return match EntryIndexes::decode(buf, at, used) {
             EntryIndexesRead::Done { entries, next } => ContentRead::Done {
                 content: LogItemContent::EntryIndexes(entries),
                 next,
@@ -319,7 +320,7 @@ fn read_content(buf: &[u8], at: usize, used: usize, kind: u64, form: Form) -> Co
         };
     }
     if kind == 2 {
-        return match Command::decode(buf, at, form) {
+        return match Command::decode(buf, at, Form::Any) {
             CommandRead::Done { command, next } => ContentRead::Done {
                 content: LogItemContent::Command(command),
                 next,
@@ -328,7 +329,7 @@ fn read_content(buf: &[u8], at: usize, used: usize, kind: u64, form: Form) -> Co
         };
     }
     if kind == 3 {
-        return match KeyValue::decode(buf, at, form) {
+        return match KeyValue::decode(buf, at, Form::Any) {
             KeyValueRead::Done { key_value, next } => ContentRead::Done {
                 content: LogItemContent::Kv(key_value),
                 next,

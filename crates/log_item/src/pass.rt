@@ -1,6 +1,6 @@
 // Going over an item without making it: by the readers of its group number, its type, its content and its tails, with the item left out.
-ghost use Rattle.log_item.specs.Answers.{passedGot, passItem};
-ghost use Rattle.log_item.specs.Private.{passEntries, passContent};
+ghost use Rattle.log_item.specs.Answers.{passedOf, passItem};
+ghost use Rattle.log_item.specs.Private.{passedGot, passEntries, passContent};
 ghost use mathlib.Core.Path.{_≡_};
 use crate::Command;
 use crate::CommandRead;
@@ -15,25 +15,50 @@ use crate::TailRead;
 use crate::entries::read_count;
 use crate::entries::read_first_index;
 use crate::entries::skip_tails;
+use crate::piece::NOT_SHORTEST;
 use crate::piece::read_byte;
-use crate::piece::read_number;
+use crate::piece::read_number_in;
 
 impl LogItem {
     // Goes over the item at a place: what decode answers but the item and the place of its tails, and in a form. It is quicker than
     // decode, since no item is handed back.
     pub fn pass(buf: &[u8], at: usize, total: u32, used: usize, form: Form) -> Passed
-        ensures { λ r. ⌜ passedGot r ≡ passItem form (now (buf .entry)) used total at ⌝ }
+        ensures { λ r. ⌜ r ≡ passedOf (passItem form (now (buf .entry)) used total at) ⌝ }
     {
-        match read_number(buf, at, form) {
-            Field::Done { value: _, next } => match read_byte(buf, next) {
-                Field::Done {
-                    value: kind,
-                    next: start,
-                } => pass_content(buf, start, total, used, kind, form),
-                Field::Refused(number) => Passed::Refused(number),
+        match pass_item(buf, at, total, used, form) {
+            Passed::Done {
+                next,
+                total: after,
+                used: entries,
+            } => Passed::Done {
+                next,
+                total: after,
+                used: entries,
             },
-            Field::Refused(number) => Passed::Refused(number),
+            Passed::Refused(number) => {
+                if number == NOT_SHORTEST {
+                    return Passed::Padded;
+                }
+                Passed::Refused(number)
+            }
+            Passed::Padded => Passed::Padded,
         }
+    }
+}
+
+// The item at a place: a padded number is refused with NOT_SHORTEST here and below.
+fn pass_item(buf: &[u8], at: usize, total: u32, used: usize, form: Form) -> Passed
+    ensures { λ r. ⌜ passedGot r ≡ passItem form (now (buf .entry)) used total at ⌝ }
+{
+    match read_number_in(buf, at, form) {
+        Field::Done { value: _, next } => match read_byte(buf, next) {
+            Field::Done {
+                value: kind,
+                next: start,
+            } => pass_content(buf, start, total, used, kind, form),
+            Field::Refused(number) => Passed::Refused(number),
+        },
+        Field::Refused(number) => Passed::Refused(number),
     }
 }
 

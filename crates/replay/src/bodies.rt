@@ -4,7 +4,6 @@ use crate::items;
 use log_batch::LogItemBatch;
 use log_item::EntryIndex;
 use log_item::EntryIndexes;
-use log_item::Form;
 use log_item::ItemRead;
 use log_item::LogItem;
 use log_item::TailRead;
@@ -46,7 +45,7 @@ fn tails(
     let mut index = entries.first_index;
     let mut left = entries.count;
     while 0 < left {
-        match EntryIndexes::decode_tail(bytes, at, total, Form::Any) {
+        match EntryIndexes::decode_tail(bytes, at, total) {
             TailRead::Done { total: after, next } => {
                 if after < total {
                     return 0;

@@ -56,7 +56,7 @@ never f e =
     absurd (omega arith)
 
 pub not-broken : {A : Type 0} {s items entries : List ℕ} {r : NumberRead} → Fits s items entries → r ≡ readNumber s 0 → OneOf (1 ∷ 2 ∷ []) (tagOf the-type r) → A
-not-broken {s = s} {r = r} f e h = never f (none-counted Any s (sym (count-broken Any s (sym (number-broken Any s 0 (sym e) (not-done r h))))))
+not-broken {s = s} {r = r} f e h = never f (none-counted Any s (sym (count-broken Any s (sym (number-broken s 0 (sym e) (not-done r h))))))
 
 pub few : {s items entries : List ℕ} {k q : ℕ} → Fits s items entries → readNumber s 0 ≡ Done k q → k ≤ 256
 few {s} {items} {entries} {k} f e = go (leb k 256) refl

@@ -17,7 +17,6 @@ use log_batch::LogBatch;
 use log_batch::Wanted;
 use log_item::Command;
 use log_item::EntryIndexes;
-use log_item::Form;
 use log_item::HeadRead;
 use log_item::KeyValue;
 use log_item::LogItem;
@@ -101,7 +100,7 @@ fn fill(buf: &[u8], items: &mut [u64], entries: &mut [u64])
     let mut tails: usize = 0;
     let mut index: u64 = 0;
     while i < count {
-        match LogItem::decode_head(buf, at, j, Form::Any) {
+        match LogItem::decode_head(buf, at, j) {
             HeadRead::Refused(_) => {
                 return;
             }
@@ -115,7 +114,7 @@ fn fill(buf: &[u8], items: &mut [u64], entries: &mut [u64])
             }
         }
         while 0 < tails {
-            match EntryIndexes::decode_tail(buf, at, total, Form::Any) {
+            match EntryIndexes::decode_tail(buf, at, total) {
                 TailRead::Refused(_) => {
                     return;
                 }

@@ -27,14 +27,14 @@ decode-tail-requires c κs = search needs
 enum-known-after : tie.Need-enum-known-after
 enum-known-after c = search needs
 
-sub-t17 : tie.Need-sub-t17
-sub-t17 c = tail-known Any _ _ _ (learnt tailGot (c .before .before .before .decode-tail .ensures) (c .before .after .given .1)) .0
+sub-t16 : tie.Need-sub-t16
+sub-t16 c = tail-known Any _ _ _ (learnt tailGot (c .before .before .before .decode-tail .ensures) (c .before .after .given .1)) .0
 
 wrapping-add-u64-requires : tie.Need-wrapping-add-u64-requires
 wrapping-add-u64-requires c κs = search needs
 
-sub-t20 : tie.Need-sub-t20
-sub-t20 c = search needs
+sub-t19 : tie.Need-sub-t19
+sub-t19 c = search needs
 
 enum-known-number : tie.Need-enum-known-number
 enum-known-number c = search needs
@@ -54,9 +54,9 @@ next-row-spec =
     slice-aggregate-decode-tail
     decode-tail-requires
     enum-known-after
-    sub-t17
+    sub-t16
     wrapping-add-u64-requires
-    sub-t20
+    sub-t19
     enum-known-number
     returns-2
     returns-3)

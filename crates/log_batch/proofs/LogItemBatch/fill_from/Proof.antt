@@ -50,11 +50,11 @@ returns c =
 enum-known-after : tie.Need-enum-known-after Inv-loop μ-loop
 enum-known-after c = search needs
 
-sub-t25 : tie.Need-sub-t25 Inv-loop μ-loop
-sub-t25 c = omega (arith, tail-known Any _ _ _ (learnt tailGot (c .before .before .before .decode-tail .ensures) (c .before .after .given .1)))
+sub-t24 : tie.Need-sub-t24 Inv-loop μ-loop
+sub-t24 c = omega (arith, tail-known Any _ _ _ (learnt tailGot (c .before .before .before .decode-tail .ensures) (c .before .after .given .1)))
 
-mul-t27 : tie.Need-mul-t27 Inv-loop μ-loop
-mul-t27 c = search needs
+mul-t26 : tie.Need-mul-t26 Inv-loop μ-loop
+mul-t26 c = search needs
 
 element-set-from-t : tie.Need-element-set-from-t Inv-loop μ-loop
 element-set-from-t c = search needs
@@ -141,8 +141,8 @@ fill-from-spec =
     empty-requires-2
     returns
     enum-known-after
-    sub-t25
-    mul-t27
+    sub-t24
+    mul-t26
     element-set-from-t
     add-j
     sub-tails

@@ -1,8 +1,9 @@
 -- `log_batch::body::check_from` meets its contract. The loop's invariant, `ItemsLeft`: what is still to be read comes to what the whole comes to.
 -- Assumes nothing.
 use Prim.Native.Nat.{_-_}
-use Rattle.log_item.specs.Answers.{passedGot}
+use Rattle.log_item.specs.Private.{passedGot}
 use Rattle.log_item.proofs.Pieces.{learnt}
+use Rattle.log_item.proofs.Passing.{passed-got}
 use Rattle.log_batch.proofs.Checking.{ItemsLeft, left-start, left-next, left-refused, left-end}
 use borrow.Author.Needs.{needs}
 use Rattle.log_batch.proofs.body.check_from.Statement.{statement}
@@ -30,16 +31,22 @@ loop-less : tie.Need-loop-less Inv-loop μ-loop
 loop-less c = search needs
 
 loop-again : tie.Need-loop-again Inv-loop μ-loop
-loop-again c = left-next _ _ (c .before .before .before .before .before .loop .inv) (c .before .before .before .before .loop-test .taken) (learnt passedGot (c .before .before .before .pass .ensures) (c .before .next .given .1))
+loop-again c = left-next _ _ (c .before .before .before .before .before .loop .inv) (c .before .before .before .before .loop-test .taken) (learnt passedGot (passed-got _ (c .before .before .before .pass .ensures)) (c .before .next .given .1))
 
 enum-known-number : tie.Need-enum-known-number Inv-loop μ-loop
 enum-known-number c = search needs
 
 returns : tie.Need-returns Inv-loop μ-loop
-returns c = left-refused _ _ (c .before .before .before .before .before .loop .inv) (c .before .before .before .before .loop-test .taken) (learnt passedGot (c .before .before .before .pass .ensures) (c .before .number .given .1))
+returns c = left-refused _ _ (c .before .before .before .before .before .loop .inv) (c .before .before .before .before .loop-test .taken) (learnt passedGot (passed-got _ (c .before .before .before .pass .ensures)) (c .before .number .given .1))
+
+enum-told : tie.Need-enum-told Inv-loop μ-loop
+enum-told c = search needs
 
 returns-2 : tie.Need-returns-2 Inv-loop μ-loop
-returns-2 c = left-end _ _ (c .before .loop .inv) (c .loop-test .left)
+returns-2 c = left-refused _ _ (c .before .before .before .before .loop .inv) (c .before .before .before .loop-test .taken) (learnt passedGot (passed-got _ (c .before .before .pass .ensures)) (c .enum-told .given .1))
+
+returns-3 : tie.Need-returns-3 Inv-loop μ-loop
+returns-3 c = left-end _ _ (c .before .loop .inv) (c .loop-test .left)
 
 pub check-from-spec : {M : Type 1} → statement M
 check-from-spec =
@@ -55,4 +62,6 @@ check-from-spec =
     loop-again
     enum-known-number
     returns
-    returns-2)
+    enum-told
+    returns-2
+    returns-3)

@@ -16,8 +16,8 @@ enum-known-kind c = search needs
 returns : tie.Need-returns
 returns c = command-clean _ _ _ (learnt fieldGot (c .before .before .before .before .read-byte .ensures) (c .before .before .kind .given .1)) (c .if1 .taken)
 
-read-number-requires : tie.Need-read-number-requires
-read-number-requires c κs = search needs
+read-number-in-requires : tie.Need-read-number-in-requires
+read-number-in-requires c κs = search needs
 
 enum-known-index : tie.Need-enum-known-index
 enum-known-index c = search needs
@@ -29,13 +29,13 @@ returns-2 : tie.Need-returns-2
 returns-2 c =
     let kind = c .before .before .before .before .before .before .before in
     command-compact _ _ _ (learnt fieldGot (kind .before .before .read-byte .ensures) (kind .kind .given .1))
-    (c .before .before .before .before .if2 .taken) (learnt fieldGot (c .before .before .before .read-number .ensures) (c .before .index .given .1))
+    (c .before .before .before .before .if2 .taken) (learnt fieldGot (c .before .before .before .read-number-in .ensures) (c .before .index .given .1))
 
 returns-3 : tie.Need-returns-3
 returns-3 c =
     let kind = c .before .before .before .before .before .before .before in
     command-short _ _ _ (learnt fieldGot (kind .before .before .read-byte .ensures) (kind .kind .given .1)) (c .before .before .before .before .if2 .taken)
-    (learnt fieldGot (c .before .before .before .read-number .ensures) (c .before .number .given .1))
+    (learnt fieldGot (c .before .before .before .read-number-in .ensures) (c .before .number .given .1))
 
 enum-known-number-2 : tie.Need-enum-known-number-2
 enum-known-number-2 c = search needs
@@ -55,7 +55,7 @@ decode-spec =
     read-byte-requires
     enum-known-kind
     returns
-    read-number-requires
+    read-number-in-requires
     enum-known-index
     enum-known-number
     returns-2

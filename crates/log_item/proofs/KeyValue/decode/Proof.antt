@@ -1,6 +1,7 @@
 -- `log_item::KeyValue::decode` meets its contract.
 -- Assumes nothing.
-use Rattle.log_item.specs.Answers.{fieldGot, spanGot}
+use Rattle.log_item.specs.Answers.{fieldGot}
+use Rattle.log_item.specs.Private.{spanGot}
 use mathlib.Core.Path.{_∙_}
 use Rattle.log_item.proofs.Pieces.{learnt}
 use Rattle.log_item.proofs.Reading.{key-put, key-delete, key-short, key-unknown, key-refused}

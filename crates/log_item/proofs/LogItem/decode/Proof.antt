@@ -24,8 +24,8 @@ skip-tails-requires c κs = search needs
 enum-known-after : tie.Need-enum-known-after
 enum-known-after c = search needs
 
-add-t19 : tie.Need-add-t19
-add-t19 c =
+add-t18 : tie.Need-add-t18
+add-t18 c =
     let item = c .before .before .before .before .before .before in
     let h = head-room _ _ (item .before .before .before .before .args .used) _
     (learnt headGot (item .before .before .decode-head .ensures) (item .item .given .1))
@@ -64,7 +64,7 @@ decode-spec =
     entries-requires
     skip-tails-requires
     enum-known-after
-    add-t19
+    add-t18
     enum-known-number
     enum-known-number-2
     returns

@@ -1,60 +1,42 @@
--- `log_item::LogItem::pass` meets its contract.
+-- `log_item::LogItem::pass` meets its contract: a padded number is a case of its own.
 -- Assumes nothing.
-use mathlib.Core.Path.{_∙_}
-use Rattle.log_item.specs.Answers.{fieldGot}
+use mathlib.Core.Path.{sym, ap}
+use Rattle.log_item.specs.Answers.{passedOf}
+use Rattle.log_item.specs.Private.{passedGot}
 use Rattle.log_item.proofs.Pieces.{learnt}
-use Rattle.log_item.proofs.Passing.{item-content, item-no-type, item-no-group}
+use Rattle.log_item.proofs.Passing.{padded, not-padded}
 use borrow.Author.Needs.{needs}
 use Rattle.log_item.proofs.LogItem.pass.Statement.{statement}
 use Rattle.log_item.proofs.LogItem.pass.Tie as tie
 
-read-number-requires : tie.Need-read-number-requires
-read-number-requires c κs = search needs
+pass-item-requires : tie.Need-pass-item-requires
+pass-item-requires c κs = search needs
 
 enum-known-next : tie.Need-enum-known-next
 enum-known-next c = search needs
 
-read-byte-requires : tie.Need-read-byte-requires
-read-byte-requires c κs = search needs
-
-enum-known-kind : tie.Need-enum-known-kind
-enum-known-kind c = search needs
-
-pass-content-requires : tie.Need-pass-content-requires
-pass-content-requires c κs = search needs
-
 enum-known-number : tie.Need-enum-known-number
 enum-known-number c = search needs
 
-enum-known-number-2 : tie.Need-enum-known-number-2
-enum-known-number-2 c = search needs
-
 returns : tie.Need-returns
 returns c =
-    let group = c .before .before .before .before .before .before in
-    c .pass-content .ensures ∙ item-content _ _ _ _ _ (learnt fieldGot (group .before .before .read-number .ensures) (group .next .given .1))
-    (learnt fieldGot (c .before .before .before .before .read-byte .ensures) (c .before .before .kind .given .1))
+    let number = c .before .before in
+    padded _ (learnt passedGot (number .before .before .pass-item .ensures) (number .number .given .1)) (c .if1 .taken)
+
+enum-told : tie.Need-enum-told
+enum-told c = search needs
 
 returns-2 : tie.Need-returns-2
-returns-2 c =
-    let group = c .before .before .before .before .before in
-    item-no-type _ _ _ _ _ (learnt fieldGot (group .before .before .read-number .ensures) (group .next .given .1))
-    (learnt fieldGot (c .before .before .before .read-byte .ensures) (c .before .number .given .1))
+returns-2 c = ap passedOf (sym (learnt passedGot (c .before .before .before .pass-item .ensures) (c .before .next .given .1)))
 
 returns-3 : tie.Need-returns-3
-returns-3 c = item-no-group _ _ _ _ _ (learnt fieldGot (c .before .before .before .read-number .ensures) (c .before .number2 .given .1))
+returns-3 c =
+    let number = c .before .before in
+    not-padded _ (learnt passedGot (number .before .before .pass-item .ensures) (number .number .given .1)) (c .if1 .left)
+
+returns-4 : tie.Need-returns-4
+returns-4 c = ap passedOf (sym (learnt passedGot (c .before .before .pass-item .ensures) (c .enum-told .given .1)))
 
 pub pass-spec : {M : Type 1} → statement M
 pass-spec =
-    tie.close
-    (tie.spec
-    read-number-requires
-    enum-known-next
-    read-byte-requires
-    enum-known-kind
-    pass-content-requires
-    enum-known-number
-    enum-known-number-2
-    returns
-    returns-2
-    returns-3)
+    tie.close (tie.spec pass-item-requires enum-known-next enum-known-number returns enum-told returns-2 returns-3 returns-4)

@@ -11,8 +11,8 @@ use Rattle.log_item.proofs.entries.read_first_index.Tie as tie
 returns : tie.Need-returns
 returns c = first-none _ _ _ (c .if1 .taken)
 
-read-number-requires : tie.Need-read-number-requires
-read-number-requires c κs = search needs
+read-number-in-requires : tie.Need-read-number-in-requires
+read-number-in-requires c κs = search needs
 
 enum-known-first-index : tie.Need-enum-known-first-index
 enum-known-first-index c = search needs
@@ -26,7 +26,7 @@ sub-if2-2 c = search needs
 returns-2 : tie.Need-returns-2
 returns-2 c =
     first-too-large _ _ _ _ (c .before .before .before .before .before .if1 .left)
-    (learnt fieldGot (c .before .before .before .before .read-number .ensures) (c .before .before .first-index .given .1)) (omega arith)
+    (learnt fieldGot (c .before .before .before .before .read-number-in .ensures) (c .before .before .first-index .given .1)) (omega arith)
 
 enum-known-number : tie.Need-enum-known-number
 enum-known-number c = search needs
@@ -34,19 +34,19 @@ enum-known-number c = search needs
 returns-3 : tie.Need-returns-3
 returns-3 c =
     first-done _ _ _ _ (c .before .before .before .before .before .if1 .left)
-    (learnt fieldGot (c .before .before .before .before .read-number .ensures) (c .before .before .first-index .given .1)) (omega arith)
+    (learnt fieldGot (c .before .before .before .before .read-number-in .ensures) (c .before .before .first-index .given .1)) (omega arith)
 
 returns-4 : tie.Need-returns-4
 returns-4 c =
     first-refused _ _ _ _ (c .before .before .before .before .if1 .left)
-    (learnt fieldGot (c .before .before .before .read-number .ensures) (c .before .number .given .1))
+    (learnt fieldGot (c .before .before .before .read-number-in .ensures) (c .before .number .given .1))
 
 pub read-first-index-spec : {M : Type 1} → statement M
 read-first-index-spec =
     tie.close
     (tie.spec
     returns
-    read-number-requires
+    read-number-in-requires
     enum-known-first-index
     sub-if2
     sub-if2-2

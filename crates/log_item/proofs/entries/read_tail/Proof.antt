@@ -61,8 +61,8 @@ returns-2 c = let known = c .before .before .before .before .before .before .bef
 enum-told-2 : tie.Need-enum-told-2
 enum-told-2 c = search needs
 
-read-number-requires : tie.Need-read-number-requires
-read-number-requires c κs = search needs
+read-number-in-requires : tie.Need-read-number-in-requires
+read-number-in-requires c κs = search needs
 
 returns-3 : tie.Need-returns-3
 returns-3 c = search needs
@@ -89,5 +89,5 @@ read-tail-spec =
     add-t30
     returns-2
     enum-told-2
-    read-number-requires
+    read-number-in-requires
     returns-3)

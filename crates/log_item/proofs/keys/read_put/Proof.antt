@@ -1,6 +1,6 @@
 -- `log_item::keys::read_put` meets its contract.
 -- Assumes nothing.
-use Rattle.log_item.specs.Answers.{spanGot}
+use Rattle.log_item.specs.Private.{spanGot}
 use Rattle.log_item.proofs.Pieces.{learnt}
 use Rattle.log_item.proofs.Reading.{put-done, put-short, put-refused}
 use borrow.Author.Needs.{needs}
