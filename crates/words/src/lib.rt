@@ -4,7 +4,9 @@
 // Every public function takes any arguments. A place may lie anywhere, past the end too, and what does not fit is not written.
 ghost use mathlib.Core.Path.{_≡_};
 ghost use mathlib.Core.List.{[], _∷_};
-ghost use Prim.Native.Nat.{min};
+ghost use Prim.Native.Nat.{ℕ, min, _<_, _^_};
+ghost use lib.ListN.{getD};
+ghost use Rattle.words.specs.Byte.{Bytes};
 ghost use Rattle.words.specs.Word.{bigEndian, littleEndian, bigEndianBytes, littleEndianBytes, readU64, readU32};
 ghost use Rattle.words.specs.Write.{wroteAt, placed};
 
@@ -156,4 +158,25 @@ pub fn wide(b: u8) -> u64
     ensures { λ r. ⌜ r ≡ b ⌝ }
 {
     b as u64
+}
+
+// What the types of arguments say of them, as theorems ask for it: bytes are below 256, a number below 2^64, a signature below 2^32. No one
+// calls it; its contract is what it is for, and so with the next.
+fn typed(bytes: &[u8], number: u64, signature: u32) -> u8
+    ensures { λ r. ⌜ Bytes (now (bytes .entry)) × (number < 2 ^ 64) × (signature < 2 ^ 32) ⌝ }
+{
+    if bytes.len() == 0 {
+        return 0;
+    }
+    bytes[0]
+}
+
+// The same of lent words: each is below 2^64.
+fn typed_words(words: &[u64]) -> u64
+    ensures { λ r. ⌜ ((i : ℕ) → getD (now (words .entry)) i 0 < 2 ^ 64) ⌝ }
+{
+    if words.len() == 0 {
+        return 0;
+    }
+    words[0]
 }
