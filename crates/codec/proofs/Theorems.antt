@@ -1,7 +1,7 @@
 -- What document 01 says of numbers, proved of the definitions that the contracts cite.
 -- Assumes nothing.
 use Prim.Native.Nat.{ℕ, suc, _+_, _-_, _*_, _^_, _≤_, _<_}
-use mathlib.Core.Path.{_≡_, sym, ap, _∙_}
+use mathlib.Core.Path.{_≡_, refl, sym, ap, _∙_}
 use mathlib.Core.Logic.{_↔_, ⊎-elim}
 use mathlib.Core.List.{List, _++_}
 use native.Mathlib.Omega.{arith}
@@ -13,11 +13,13 @@ use lib.ListN.{length, drop, length-append, length-drop}
 use lib.Pow.{pow-pos}
 use lib.Seq.{drop-drop, drop-append-seam}
 use Rattle.words.specs.Byte.{Bytes}
+use Rattle.words.specs.Got.{got, refused}
 use Rattle.words.specs.Place.{Found}
 use Rattle.words.proofs.Bytes.{as-long}
-use Rattle.codec.specs.declared.NumberRead.the-variants.{Done}
+use Rattle.codec.specs.declared.NumberRead.{NumberRead}
+use Rattle.codec.specs.declared.NumberRead.the-variants.{Done, Eof, Overflow}
 use Rattle.codec.specs.Spelling.{SpellsNumber}
-use Rattle.codec.specs.Number.{readNumber, readFrom}
+use Rattle.codec.specs.Number.{readNumber, readFrom, numberGot}
 use Rattle.codec.specs.Shortest.{shortest, statedLength}
 use Rattle.codec.proofs.Spelled.{as-number, read-groups, read-head, groups-pos}
 use Rattle.codec.proofs.Shortest.{digit, spell-good, spell-digits, spell-least, spell-only, groups-fit, below-pow}
@@ -36,6 +38,24 @@ read-iff-stands s at n next = (to, from)
 
     from : Found s (SpellsNumber n) at next → readFrom 9 (drop at s) at ≡ Done n next
     from h = rw (h .at .stand, h .at .ends) (read-groups 9 (h .has .groups) (h .has .few) (h .has .tenth) _ at)
+
+-- In document 01's numbers: the number and the place after it exactly when some spelling of it stands there, and 7 exactly when none of any does.
+pub number-told : (s : List ℕ) (at : ℕ) → ((n next : ℕ) → (numberGot (readNumber s at) ≡ got n next) ↔ Found s (SpellsNumber n) at next)
+    × ((numberGot (readNumber s at) ≡ refused 7) ↔ ((n next : ℕ) → Found s (SpellsNumber n) at next → ⊥))
+number-told s at = (λ n next. (λ e. read-iff-stands s at n next .0 (done (readNumber s at) e), λ h. rw (read-iff-stands s at n next .1 h)), (λ e n next h. clash (sym e ∙ ap numberGot (read-iff-stands s at n next .1 h)), λ none. other (readNumber s at) λ n next e. none n next (read-iff-stands s at n next .0 e)))
+  where
+    clash : {n next : ℕ} → refused 7 ≡ got n next → ⊥
+    clash e = let z : _≡_ {A = ℕ} 0 1 = cc in omega arith
+
+    done : (r : NumberRead) {n next : ℕ} → numberGot r ≡ got n next → r ≡ Done n next
+    done (Done n next) e = cc
+    done Eof e = absurd (clash e)
+    done Overflow e = absurd (clash e)
+
+    other : (r : NumberRead) → ((n next : ℕ) → r ≡ Done n next → ⊥) → numberGot r ≡ refused 7
+    other (Done n next) f = absurd (f n next refl)
+    other Eof f = refl
+    other Overflow f = refl
 
 -- Of two spellings that begin the same bytes, number and bytes are equal.
 pub one-spelling : {n m : ℕ} {bs cs : List ℕ} (r t : List ℕ) → SpellsNumber n bs → SpellsNumber m cs → bs ++ r ≡ cs ++ t → (n ≡ m) × (bs ≡ cs)

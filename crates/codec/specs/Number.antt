@@ -1,10 +1,11 @@
--- What reading a number at a place answers.
+-- What reading a number at a place answers, and that answer in document 01's numbers.
 -- Assumes nothing.
 use Prim.Native.Nat.{ℕ, zero, suc, _+_, _-_, _*_}
 use mathlib.Core.Bool.{cond}
 use mathlib.Core.List.{List, [], _∷_}
 use lib.Dec.{ltb, leb}
 use lib.ListN.{drop}
+use Rattle.words.specs.Got.{Got, got, refused}
 use Rattle.codec.specs.declared.NumberRead.{NumberRead}
 use Rattle.codec.specs.declared.NumberRead.the-variants.{Done, Eof, Overflow}
 
@@ -23,3 +24,9 @@ readFrom (suc room) (b ∷ bs) p = cond (ltb b 128) (Done b (suc p)) (under b (r
 -- the number at the place `at` of s
 unfoldable pub readNumber : List ℕ → ℕ → NumberRead
 readNumber s at = readFrom 9 (drop at s) at
+
+-- the bytes end inside or before the number, or its tenth byte is above 1: 7
+abbrev pub numberGot : NumberRead → Got ℕ
+numberGot (Done n q) = got n q
+numberGot Eof = refused 7
+numberGot Overflow = refused 7

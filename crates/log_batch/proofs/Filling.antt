@@ -14,7 +14,7 @@ use Rattle.codec.specs.declared.NumberRead.the-variants.{Done, Eof, Overflow}
 use Rattle.codec.proofs.NumberRead.{the-type}
 use Rattle.log_item.specs.Got.{got, refused}
 use Rattle.log_item.specs.Entries.{entriesOf, tailRow}
-use Rattle.log_item.specs.Pieces.{numberGot}
+use Rattle.codec.specs.Number.{numberGot}
 use Rattle.log_item.specs.Reading.{head, tail, tails}
 use Rattle.log_item.specs.declared.Form.the-variants.{Any}
 use Rattle.log_item.specs.declared.LogItem.{LogItem}

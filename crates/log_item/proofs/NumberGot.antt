@@ -5,12 +5,12 @@ use mathlib.Core.Path.{_≡_, refl}
 use mathlib.Core.List.{List}
 use lib.ListN.{length}
 use Rattle.codec.specs.Shortest.{shortest}
-use Rattle.codec.specs.Number.{readNumber}
+use Rattle.codec.specs.Number.{readNumber, numberGot}
 use Rattle.codec.specs.declared.NumberRead.{NumberRead}
 use Rattle.codec.specs.declared.NumberRead.the-variants.{Done, Eof, Overflow}
 use Rattle.codec.proofs.Theorems.{read-moves}
 use Rattle.log_item.specs.Got.{got, done}
-use Rattle.log_item.specs.Pieces.{numberGot, number}
+use Rattle.log_item.specs.Pieces.{number}
 use Rattle.log_item.specs.declared.Form.{Form}
 use Rattle.log_item.specs.declared.Form.the-variants.{Any, Plain}
 use Rattle.log_item.proofs.Holds.{Holds, holds, refuses, after, equal, of-got}

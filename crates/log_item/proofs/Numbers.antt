@@ -9,7 +9,7 @@ use lib.Seq.{drop-cons}
 use borrow.Author.Tests.{lt-ltb, eq-eqb}
 use Rattle.codec.specs.declared.NumberRead.{NumberRead}
 use Rattle.codec.specs.declared.NumberRead.the-variants.{Done, Eof, Overflow}
-use Rattle.codec.specs.Number.{readNumber}
+use Rattle.codec.specs.Number.{readNumber, numberGot}
 use Rattle.codec.specs.Shortest.{shortest}
 use Rattle.codec.specs.Spelling.{SpellsNumber}
 use Rattle.codec.proofs.Spelled.{groups-pos}
@@ -20,7 +20,7 @@ use Rattle.log_item.specs.Got.{got}
 use Rattle.log_item.specs.Spelling.{NumberIn}
 use Rattle.words.specs.Place.{At, Found}
 use Rattle.log_item.specs.ItemSpelled.{Asks}
-use Rattle.log_item.specs.Pieces.{numberGot, byte, number}
+use Rattle.log_item.specs.Pieces.{byte, number}
 use Rattle.log_item.proofs.Holds.{Says, holds, says, after, if-below, if-equal}
 use Rattle.words.specs.Byte.{Bytes}
 use Rattle.words.proofs.Place.{at-byte, at-inside, bytes-at}

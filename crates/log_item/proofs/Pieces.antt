@@ -6,12 +6,12 @@ use mathlib.Core.List.{List}
 use native.Mathlib.Omega.{arith}
 use borrow.Author.Tests.{lt-ltb, le-ltb, le-leb, lt-leb, eq-eqb, ne-eqb}
 use lib.ListN.{length, getD}
-use Rattle.codec.specs.Number.{readNumber}
+use Rattle.codec.specs.Number.{readNumber, numberGot}
 use Rattle.codec.specs.Shortest.{shortest}
 use Rattle.codec.specs.declared.NumberRead.{NumberRead}
 use Rattle.codec.specs.declared.NumberRead.the-variants.{Done}
 use Rattle.log_item.specs.Got.{got, refused}
-use Rattle.log_item.specs.Pieces.{numberGot, byte, number, span}
+use Rattle.log_item.specs.Pieces.{byte, number, span}
 use Rattle.log_item.specs.declared.Form.{Form}
 use Rattle.log_item.specs.declared.Form.the-variants.{Any, Plain}
 use Rattle.log_item.proofs.NumberGot.{number-inside}

@@ -6,9 +6,7 @@ use mathlib.Core.Bool.{true, false}
 use Rattle.refusal.specs.First.{Check}
 pub use Rattle.refusal.specs.First.{_else_}
 
-pub data Got (A : Type 0) : Type 0 where
-  got : A → ℕ → Got A
-  refused : ℕ → Got A
+pub use Rattle.words.specs.Got.{Got, got, refused}
 
 -- what reads a piece from a place on
 abbrev pub Reading : Type 0 → Type 0

@@ -4,20 +4,12 @@ use Prim.Native.Nat.{ℕ, _+_}
 use mathlib.Core.List.{List}
 use lib.Dec.{ltb, leb, eqb}
 use lib.ListN.{length, getD}
-use Rattle.codec.specs.Number.{readNumber}
+use Rattle.codec.specs.Number.{readNumber, numberGot}
 use Rattle.codec.specs.Shortest.{shortest}
-use Rattle.codec.specs.declared.NumberRead.{NumberRead}
-use Rattle.codec.specs.declared.NumberRead.the-variants.{Done, Eof, Overflow}
-use Rattle.log_item.specs.Got.{Got, got, refused, Reading, done, upto, here, _>>=_, _>>_, _else_}
+use Rattle.log_item.specs.Got.{Reading, done, upto, here, _>>=_, _>>_, _else_}
 use Rattle.log_item.specs.declared.Form.{Form}
 use Rattle.log_item.specs.declared.Form.the-variants.{Any, Plain}
 use Rattle.log_item.specs.declared.Span.{Span}
-
--- the bytes end inside or before the number, or its tenth byte is above 1: 7
-abbrev pub numberGot : NumberRead → Got ℕ
-numberGot (Done n q) = got n q
-numberGot Eof = refused 7
-numberGot Overflow = refused 7
 
 -- a one-byte field
 unfoldable pub byte : List ℕ → Reading ℕ

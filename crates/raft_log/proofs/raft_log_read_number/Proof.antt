@@ -1,7 +1,7 @@
 -- `raft_log::raft_log_read_number` meets its contract.
 -- Assumes nothing.
 use Rattle.codec.specs.declared.NumberRead.{NumberRead}
-use Rattle.log_item.specs.Pieces.{numberGot}
+use Rattle.codec.specs.Number.{numberGot}
 use Rattle.raft_log.specs.Answers.{numberReply}
 use Rattle.item_row.specs.Reply.{Reply}
 use Rattle.item_row.proofs.Replies.{reply-told}
