@@ -11,13 +11,19 @@ pub(crate) fn case(line: &[u8]) {
     let mut buf = [0u8; 2048];
     let signature = line::short(line, 2);
     let len = line::bytes(line, 3, &mut buf);
-    let n = if line::first_letter(line) == b'i' {
-        list_writer::write_footer(signature, &mut buf, 0, len)
+    let letter = line::first_letter(line);
+    let n = footed(letter, signature, &mut buf, len);
+    let table = read(letter, line::front(&buf, n), signature);
+    tables::line(line::word(line, 0), line::word(line, 1), table);
+}
+
+// The length with a footer where the letter is that of `items`, which gets one here; the other kinds have theirs.
+fn footed(letter: u8, signature: u32, buf: &mut [u8], len: usize) -> usize {
+    if letter == b'i' {
+        list_writer::write_footer(signature, buf, 0, len)
     } else {
         len
-    };
-    let table = read(line::first_letter(line), line::front(&buf, n), signature);
-    tables::line(line::word(line, 0), line::word(line, 1), table);
+    }
 }
 
 // The table of a whole batch where the letter is that of `whole`, else of a body.
