@@ -7,8 +7,6 @@ use Rattle.log_item.specs.declared.Field.{Field}
 use Rattle.log_item.specs.declared.Field.the-variants as field
 use Rattle.log_item.proofs.piece.read_number.Kinds as read-number-kinds
 use Rattle.log_item.proofs.piece.read_number.Reads as read-number-reads
-use Rattle.log_item.proofs.piece.read_byte.Kinds as read-byte-kinds
-use Rattle.log_item.proofs.piece.read_byte.Reads as read-byte-reads
 use Rattle.log_item.proofs.prefix.lies_in.Kinds as lies-in-kinds
 use Rattle.log_item.proofs.prefix.lies_in.Reads as lies-in-reads
 use Rattle.log_item.proofs.prefix.starts_with.Kinds as starts-with-kinds
@@ -52,9 +50,6 @@ field-same (field.Refused r) (field.Refused x) e = cc
 
 pub read-number : OneAnswer 1 read-number-kinds.ps read-number-kinds.r read-number-reads.Post (λ κs x y s t. x ≡ y)
 read-number κs a x y s t p q = field-same x y (p ∙ sym q)
-
-pub read-byte : OneAnswer 1 read-byte-kinds.ps read-byte-kinds.r read-byte-reads.Post (λ κs x y s t. x ≡ y)
-read-byte κs a x y s t p q = field-same x y (p ∙ sym q)
 
 pub lies-in : OneAnswer 1 lies-in-kinds.ps lies-in-kinds.r lies-in-reads.Post (λ κs x y s t. x ≡ y)
 lies-in κs a x y s t p q = p ∙ sym q

@@ -5,7 +5,6 @@ use Prim.Native.Nat.{ℕ}
 use mathlib.Core.Bool.{true, false}
 use Rattle.refusal.specs.First.{Check}
 pub use Rattle.refusal.specs.First.{_else_}
-
 pub use Rattle.words.specs.Got.{Got, got, refused}
 
 -- what reads a piece from a place on

@@ -11,7 +11,6 @@ mod prefix;
 mod refusing;
 mod writing;
 
-pub use piece::read_byte;
 pub use piece::read_number;
 pub use prefix::INTERNAL_KEY_PREFIX;
 pub use prefix::lies_in;
@@ -24,6 +23,7 @@ ghost use Rattle.log_item.specs.Answers.{headGot, tailGot, itemGot, coun
 use entries::read_count;
 use entries::read_first_index;
 use entries::skip_tails;
+use piece::read_byte;
 use piece::read_number_in;
 
 // Where bytes stand in the body.

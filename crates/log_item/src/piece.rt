@@ -61,7 +61,7 @@ pub(crate) fn read_number_in(buf: &[u8], at: usize, form: Form) -> Field
 }
 
 // The byte at a place.
-pub fn read_byte(buf: &[u8], at: usize) -> Field
+pub(crate) fn read_byte(buf: &[u8], at: usize) -> Field
     ensures { λ r. ⌜ fieldGot r ≡ byte (now (buf .entry)) at ⌝ }
 {
     if at < buf.len() {

@@ -3,3 +3,4 @@ pub mod Write
 pub mod Byte
 pub mod Place
 pub mod Part
+pub mod Got
