@@ -7,7 +7,7 @@ use mathlib.Core.List.{List, [], _∷_}
 use native.Mathlib.Omega.{arith}
 use lib.Dec.{leb}
 use lib.ListN.{length, getD, take, drop, length-drop, drop-of-length-le}
-use lib.Seq.{take-all, take-nil, take-length, drop-drop}
+use lib.Seq.{take-all, take-length, drop-drop}
 use borrow.Author.Tests.{leb-true, leb-false, le-leb, lt-leb}
 use denote.Ref.{RefT, ptr, now}
 use Rattle.words.specs.Part.{Part, seen, partAt, frontOf}

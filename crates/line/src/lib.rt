@@ -4,7 +4,7 @@
 // counts as the digit 0.
 ghost use mathlib.Core.Path.{_≡_};
 ghost use mathlib.Core.List.{_++_};
-ghost use Prim.Native.Nat.{_+_, _-_, _*_, _%_, _^_, min};
+ghost use Prim.Native.Nat.{_+_, _*_, _%_, _^_, min};
 ghost use lib.ListN.{length, getD, take, drop};
 ghost use Rattle.words.specs.Part.{seen, frontOf};
 ghost use Rattle.bytes.specs.Bytes.{indexOf};
