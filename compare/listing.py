@@ -11,7 +11,7 @@ import sys
 
 sys.dont_write_bytecode = True
 
-from model import Refused, read_items
+from model import Refused, read_items, spell
 
 READ = 65536
 
@@ -47,6 +47,9 @@ def bodies():
     # 256 items, and the longest list of entries
     yield b"\x80\x02" + bytes.fromhex("010201") * 256
     yield bytes.fromhex("01" "010180080a") + bytes(1024)
+    # lines of more than 65,536 bytes, which is what the program keeps back
+    most = spell(2**64 - 1)
+    yield spell(256) + (most + b"\x02\x02" + most) * 255 + most + b"\x01" + spell(1024) + spell(2**64 - 1024) + spell(2**32 - 1) * 1024
     # a key up to the last byte that is read, and one byte further
     yield bytes.fromhex("01" "010302") + bytes.fromhex("f9ff03") + bytes(READ - 7)
     yield bytes.fromhex("01" "010302") + bytes.fromhex("faff03") + bytes(READ)
