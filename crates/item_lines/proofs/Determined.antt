@@ -3,8 +3,6 @@
 use mathlib.Core.Path.{_≡_, sym, _∙_}
 use denote.Ref.{now}
 use Rattle.one_answer.specs.OneAnswer.{OneAnswer}
-use Rattle.item_lines.proofs.decimal.Kinds as decimal-kinds
-use Rattle.item_lines.proofs.decimal.Reads as decimal-reads
 use Rattle.item_lines.proofs.item_line.Kinds as item-kinds
 use Rattle.item_lines.proofs.item_line.Reads as item-reads
 use Rattle.item_lines.proofs.entry_line.Kinds as entry-kinds
@@ -13,9 +11,6 @@ use Rattle.item_lines.proofs.sums_line.Kinds as sums-kinds
 use Rattle.item_lines.proofs.sums_line.Reads as sums-reads
 use Rattle.item_lines.proofs.refused_line.Kinds as refused-kinds
 use Rattle.item_lines.proofs.refused_line.Reads as refused-reads
-
-pub decimal : OneAnswer 1 decimal-kinds.ps decimal-kinds.r decimal-reads.Post (λ κs x y s t. (x ≡ y) × (now (s .1 .0) ≡ now (t .1 .0)))
-decimal κs a x y s t p q = (p .0 ∙ sym (q .0), p .1 ∙ sym (q .1))
 
 pub item-line : OneAnswer 1 item-kinds.ps item-kinds.r item-reads.Post (λ κs x y s t. (x ≡ y) × (now (s .1 .0) ≡ now (t .1 .0)))
 item-line κs a x y s t p q = (p .0 ∙ sym (q .0), p .1 ∙ sym (q .1))

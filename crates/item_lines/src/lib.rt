@@ -1,4 +1,4 @@
-// The lines of the program itemlist, each put at a place of a lent buffer, and a number in ten, of which they are made.
+// The lines of the program itemlist, each put at a place of a lent buffer.
 //
 // Every public function takes any arguments: a place may lie past the end, and a line that has no room is not begun.
 ghost use mathlib.Core.Path.{_≡_};
@@ -19,7 +19,7 @@ use refusal::Refusal;
 use words::Wrote;
 
 // Puts a number in ten.
-pub fn decimal(n: u64, out: &mut [u8], at: usize) -> Wrote
+fn decimal(n: u64, out: &mut [u8], at: usize) -> Wrote
     ensures { λ r. ⌜ (r ≡ wroteAt (now (out .entry)) at (Decimal·decimal n)) × (now (out .exit) ≡ placed (now (out .entry)) at (Decimal·decimal n)) ⌝ }
 {
     let mut digits = [0u8; 20];
