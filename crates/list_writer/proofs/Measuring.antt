@@ -47,11 +47,11 @@ pub data Measures (v : Verdict) (n : ℕ) (m : Measured) : Type 0 where
 pub measures : (v : Verdict) (n : ℕ) {m : Measured} → m ≡ measuredOf v n → Measures v n m
 unfolding measuredOf
 measures (refused a b) n e = rw e (unsized (inl refl) refl)
-measures (fine t) n e = rw e (go (ltb 4294967295 (n + 4)) refl)
+measures (fine t) n e = rw e (go (leb (n + 4) 4294967295) refl)
   where
-    go : (b : Bool) → ltb 4294967295 (n + 4) ≡ b → Measures (fine t) n (cond b (measured 22 0 0 0) (measured 0 0 (n + 4) t))
-    go true h = unsized (inr refl) refl
-    go false h = sized (record { told = refl; number = refl; long = refl; small = ltb-false _ _ h })
+    go : (b : Bool) → leb (n + 4) 4294967295 ≡ b → Measures (fine t) n (cond b (measured 0 0 (n + 4) t) (measured 22 0 0 0))
+    go true h = sized (record { told = refl; number = refl; long = refl; small = leb-true _ _ h })
+    go false h = unsized (inr refl) refl
 
 pub sized-where : (v : Verdict) (n : ℕ) {m : Measured} → m ≡ measuredOf v n → (m .length ≡ 0 → ⊥) → HasLength v n m
 sized-where v n {m} e h = go (measures v n e)
@@ -72,11 +72,11 @@ list-fine s checked xs ns {t} h =
 
 pub measured-22 : (t size : ℕ) → 4294967291 < size → measured 22 0 0 0 ≡ measuredOf (fine t) size
 unfolding measuredOf
-measured-22 t size h = rw (lt-ltb 4294967295 (size + 4) (omega arith))
+measured-22 t size h = rw (lt-leb (size + 4) 4294967295 (omega arith))
 
 pub measured-fine : (t size : ℕ) → size ≤ 4294967291 → measured 0 0 (size + 4) t ≡ measuredOf (fine t) size
 unfolding measuredOf
-measured-fine t size h = rw (le-ltb 4294967295 (size + 4) (omega arith))
+measured-fine t size h = rw (le-leb (size + 4) 4294967295 (omega arith))
 
 measured-capped : (t size n : ℕ) → capped size ≡ capped n → measuredOf (fine t) size ≡ measuredOf (fine t) n
 measured-capped t size n e = go (ltb 4294967291 size) refl

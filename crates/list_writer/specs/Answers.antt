@@ -4,7 +4,7 @@ use Prim.Native.Nat.{ℕ, _+_}
 use mathlib.Core.Bool.{Bool, cond, not}
 use mathlib.Core.List.{List}
 use mathlib.Core.Path.{_≡_}
-use lib.Dec.{ltb, leb, eqb}
+use lib.Dec.{leb, eqb}
 use lib.ListN.{length}
 use Rattle.log_item.specs.declared.LogItem.{LogItem}
 use Rattle.list_writer.specs.declared.Measured.{Measured}
@@ -20,7 +20,9 @@ measured number item len total = record { number = number; item = item; length =
 -- the verdict on a list of n bytes, then 22: the footer has four
 unfoldable pub measuredOf : Verdict → ℕ → Measured
 measuredOf (refused number item) n = measured number item 0 0
-measuredOf (fine total) n = cond (ltb 4294967295 (n + 4)) (measured 22 0 0 0) (measured 0 0 (n + 4) total)
+measuredOf (fine total) n = do
+  leb (n + 4) 4294967295 else measured 22 0 0 0
+  measured 0 0 (n + 4) total
 
 -- the first refusal but 21, or the body's length and the entry total
 unfoldable pub measureOf : List ℕ → Bool → List LogItem → List ℕ → Measured
