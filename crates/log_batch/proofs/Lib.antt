@@ -11,6 +11,7 @@ pub mod Coming
 pub mod Filling
 pub mod Tables
 pub mod Frames
+pub mod Parts
 pub mod WrittenBytes
 pub mod Spelled
 pub mod ListWritten

@@ -1,15 +1,15 @@
 -- Demand 3 of what a caller gets: each answer that meets the contract of a reader, for any bytes under any signature.
 -- Assumes nothing.
 use Prim.Native.Nat.{ℕ, _+_, _-_, _*_, _/_, _%_, _≤_, _<_}
-use mathlib.Core.Path.{_≡_, refl, sym, ap, ap₂, _∙_}
+use mathlib.Core.Path.{_≡_, refl, sym, ap, _∙_}
 use mathlib.Core.List.{List, [], _∷_, _++_, append-assoc}
 use mathlib.Core.Logic.{_↔_}
 use native.Mathlib.Omega.{arith}
 use native.Mathlib.Nat.{add-sub-of-le}
-use borrow.Author.Tests.{le-leb, eq-eqb, ne-eqb}
+use borrow.Author.Tests.{eq-eqb, ne-eqb}
 use lib.Bits.{xor-zero-r}
 use lib.ListN.{length, take, drop, length-take, length-drop, length-append, take-append-drop}
-use lib.Seq.{take-at, drop-at, drop-drop}
+use lib.Seq.{drop-drop}
 use contract.Lifetimes.{Lfts}
 use denote.Ref.{now}
 use denote.Triple.Clauses.{AtExit}
@@ -36,7 +36,8 @@ use Rattle.log_batch.specs.Batch.{blockOf, bodyOf, frontBatch, readBatch
 use Rattle.log_batch.proofs.Bodies.{sound-body, complete-body}
 use Rattle.log_batch.proofs.Sealing.{sealed, sealed-of, block-some}
 use Rattle.log_batch.proofs.NonZero.{refusal-some}
-use Rattle.log_batch.proofs.Frames.{frame-good, front-good, front-known}
+use Rattle.log_batch.proofs.Frames.{front-known}
+use Rattle.log_batch.proofs.Parts.{all, stated, block-there, body-there, front-there}
 use Rattle.log_batch.proofs.Whole.{body-read, batch-exactly}
 use Rattle.log_batch.proofs.LogItemBatch.decode.Kinds as body-kinds
 use Rattle.log_batch.proofs.LogItemBatch.decode.Reads as body-reads
@@ -164,60 +165,6 @@ parts o l s h k =
     ∙ ap (λ (t : List ℕ). take 8 s ++ t)
     (cut 8 16 s (omega arith) ∙ ap (λ (t : List ℕ). take 8 (drop 8 s) ++ t) (cut 16 o s h ∙ ap (λ (t : List ℕ). take (o - 16) (drop 16 s) ++ t) (cut o l s k))))
 
--- What a header of two words states, and what stands where it says.
-module _ (first second block body past : List ℕ) (eight : length first ≡ 8) (again : length second ≡ 8) where
-  abbrev all : List ℕ
-  all = first ++ second ++ block ++ body ++ past
-
-  abbrev stated : LogBatch
-  stated = record { offset = 16 + length block; len = 16 + length block + length body; compression = 0 }
-
-  long : length all ≡ 16 + length block + length body + length past
-  long = simp length-append (omega arith)
-
-  words-first : all ≡ first ++ (second ++ (block ++ (body ++ past)))
-  words-first = simp append-assoc
-
-  first-word : take 8 all ≡ first
-  first-word = ap (take 8) words-first ∙ take-at first (second ++ (block ++ (body ++ past))) 8 eight
-
-  second-word : take 8 (drop 8 all) ≡ second
-  second-word =
-      ap (λ (l : List ℕ). take 8 (drop 8 l)) words-first ∙ ap (take 8) (drop-at first (second ++ (block ++ (body ++ past))) 8 eight)
-      ∙ take-at second (block ++ (body ++ past)) 8 again
-
-  block-there : blockOf stated all ≡ block
-  block-there =
-      let two : length (first ++ second) ≡ 16 = omega (arith, length-append first second) in
-      let size : length block ≡ 16 + length block - 16 = omega arith in
-      ap (blockOf stated) (words-first ∙ sym (append-assoc first second (block ++ (body ++ past))))
-      ∙ ap (take (16 + length block - 16)) (drop-at (first ++ second) (block ++ (body ++ past)) 16 two) ∙ take-at block (body ++ past) _ size
-
-  body-there : bodyOf stated all ≡ body
-  body-there =
-      let front : length (first ++ second ++ block) ≡ 16 + length block = simp length-append (omega arith) in
-      let size : length body ≡ 16 + length block + length body - (16 + length block) = omega arith in
-      ap (λ (l : List ℕ). bodyOf stated l) (append-assoc (first ++ second ++ block) body past)
-      ∙ ap (take (16 + length block + length body - (16 + length block))) (drop-at (first ++ second ++ block) (body ++ past) _ front) ∙ take-at body past _ size
-
-  module _ (whole : bigEndian first ≡ (16 + length block + length body) * 256) (offset : bigEndian second ≡ 16 + length block) where
-    header-there : header all 0 ≡ got stated 16
-    unfolding header
-    header-there =
-        let len : ℕ = 16 + length block + length body in
-        let there : 16 ≤ length all = omega (arith, long) in
-        let good = frame-good (len * 256) (16 + length block) (omega arith) (omega arith) (omega arith) in
-        let size : len * 256 / 256 ≡ len = omega arith in
-        let none : len * 256 % 256 ≡ 0 = omega arith in
-        rw (le-leb 16 (length all) there)
-        (ap₂ (λ (x y : ℕ). frame x y 0) (ap bigEndian first-word ∙ whole) (ap bigEndian second-word ∙ offset) ∙ sym good
-        ∙ ap₂ (λ (x y : ℕ). got (record { offset = 16 + length block; len = x; compression = y }) 16) size none)
-
-    front-there : {content : List ℕ} → Block content block → frontBatch all 0 ≡ got stated 16
-    front-there b =
-        let check = ap blockCheck block-there ∙ block-complete b .0 in
-        sym (front-good all header-there (omega (arith, long)) refl (sym check) refl)
-
 module _ (s : List ℕ) (signature : ℕ) where
   -- An accepted batch is acceptable, for the block and body that its header states.
   batch-sound : {h : LogBatch} {q : ℕ} → frontBatch s 0 ≡ got h q → {xs : List LogItem} {rows : List EntryIndex} {bytes : List ℕ}
@@ -252,12 +199,13 @@ module _ (s : List ℕ) (signature : ℕ) where
       let v : List ℕ = a .past in
       let e = a .eight .0 in
       let h = a .eight .1 in
-      let front = front-there f g block body v e h (a .whole) (a .offset) (a .sealed) in
-      let size : sealedLength (blockOf (stated f g block body v e h) (all f g block body v e h)) ≡ length (a .content) =
-      ap sealedLength (block-there f g block body v e h) ∙ block-complete (a .sealed) .1 in
+      let block-good = block-complete (a .sealed) in
+      let front = front-there f g block body v e h (a .whole) (a .offset) (block-good .0) in
+      let size : sealedLength (blockOf (stated block body) (all f g block body v)) ≡ length (a .content) =
+      ap sealedLength (block-there f g block body v e h) ∙ block-good .1 in
       let place : 16 + length block + length body - (16 + length block) ≡ length body = omega arith in
       let room : 16 + length block - 16 ≡ length block = omega arith in
-      ap (λ (l : List ℕ). readBatch l signature) (a .split) ∙ body-read (all f g block body v e h) signature front
+      ap (λ (l : List ℕ). readBatch l signature) (a .split) ∙ body-read (all f g block body v) signature front
       ∙ (rw (size, body-there f g block body v e h, complete-body body signature (a .acceptable), eq-eqb total (length (a .content)) (a .agrees), place, room))
 
 -- `LogBatch::decode`: the same of a whole batch, and the table states where its body and its block stand.
