@@ -103,8 +103,8 @@ pub enum ItemRead {
     Refused(u32),
 }
 
-// The place after an item, and the total and the number of entries after it; or why it is refused; or that the first number which is
-// not taken is padded, where the shortest spelling was asked for.
+// The place after an item, and the total and the number of entries after it; or why it is refused; or, where shortest numbers are asked
+// for, that one is padded.
 pub enum Passed {
     Done {
         next: usize,
