@@ -5,7 +5,7 @@ use mathlib.Core.Bool.{cond}
 use mathlib.Core.List.{List, [], _∷_, _++_}
 use lib.Dec.{ltb}
 
--- the ASCII codes of its digits: the last is what is left by 10, and before it stand those of n / 10, unless n is below 10; as many as room may
+-- the ASCII codes of its digits: the last is what is left by 10, and before it stand those of n / 10, unless n is below 10; at most one more than room
 unfoldable pub digits : ℕ → ℕ → List ℕ
 digits zero n = (48 + n) ∷ []
 digits (suc room) n = cond (ltb n 10) ((48 + n) ∷ []) (digits room (n / 10) ++ ((48 + n % 10) ∷ []))

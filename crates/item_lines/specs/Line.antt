@@ -11,7 +11,6 @@ use Rattle.log_item.specs.declared.Op.the-variants.{Put, Del}
 use Rattle.log_item.specs.declared.LogItemContent.{LogItemContent}
 use Rattle.log_item.specs.declared.LogItemContent.the-variants as contents
 use Rattle.log_item.specs.declared.LogItem.{LogItem}
-use Rattle.log_item.specs.declared.Span.{Span}
 use Rattle.log_item.specs.declared.EntryIndex.{EntryIndex}
 use Rattle.item_lines.specs.Decimal.{decimal}
 

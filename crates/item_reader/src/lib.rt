@@ -44,7 +44,8 @@ pub enum Next {
     Refused(Refusal),
 }
 
-// A place to step from in a body that is lent at each step. One that was started on a body stands at an item of it, or at its end.
+// A place to step from in a body that is lent at each step. One that was started on a body stands at an item of it or at its end, or has
+// its refusal.
 pub struct Cursor {
     // the place of the next item, and the total and the number of entries before it
     pub at: usize,
@@ -121,7 +122,7 @@ impl Cursor {
     }
 
     // The next item, the end, or the body's refusal, and the cursor after it; after the end the end again. The body is the one that the
-    // cursor was started on; in another the items are those that stand there.
+    // cursor was started on; in another the answer is what stands there: an item, or why it is refused.
     pub fn step(self, body: &[u8]) -> Stepped
         ensures { λ r. ⌜ r ≡ stepped (now (body .entry)) self ⌝ }
     {

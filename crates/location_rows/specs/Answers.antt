@@ -2,9 +2,9 @@
 -- Assumes nothing.
 use mathlib.Core.Path.{_≡_}
 use Prim.Native.Nat.{ℕ, _*_}
-use mathlib.Core.Bool.{cond}
 use mathlib.Core.List.{List, _++_}
 use lib.ListN.{length, drop}
+use Rattle.refusal.specs.First.{_else_, _>>_}
 use Rattle.location_rules.specs.declared.Table.{Table}
 use Rattle.location_rules.specs.declared.Gate.{Gate}
 use Rattle.location_rules.specs.declared.Rewritten.{Rewritten}
@@ -21,7 +21,9 @@ tableFrom first count = record { first = first; count = count }
 -- a row of the table that is no location's is a 26, an incoming one a 27
 abbrev pub rewriteRows : Rows → Table → Rows → ℕ → Gate → Rewritten
 rewriteRows broken t incoming first gate = unchanged 26 (t .count)
-rewriteRows (rows xs) t broken first gate = cond (wellFormed xs t) (unchanged 27 (t .count)) (unchanged 26 (t .count))
+rewriteRows (rows xs) t broken first gate = do
+  wellFormed xs t else unchanged 26 (t .count)
+  unchanged 27 (t .count)
 rewriteRows (rows xs) t (rows ys) first gate = rewriteOf xs t ys first gate
 
 -- the words of the rows after the rewrite, then what stood there; the words as they were where a row is no location's

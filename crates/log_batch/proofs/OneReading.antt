@@ -14,7 +14,7 @@ use contract.Lifetimes.{Lfts}
 use denote.Ref.{now}
 use denote.Triple.Clauses.{AtExit}
 use borrow.Fn.Kinds.{PK, RK, Out, Dens, resT, endedOf}
-use Rattle.words.specs.Word.{littleEndian, bigEndian}
+use Rattle.words.specs.Word.{bigEndian}
 use Rattle.crc.specs.Crc.{crcOf}
 use Rattle.log_item.specs.Got.{got}
 use Rattle.log_item.specs.declared.Span.{Span}

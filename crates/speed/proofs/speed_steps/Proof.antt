@@ -1,7 +1,6 @@
 -- `speed::speed_steps` meets its contract: each item that a step hands out is one of those that are left.
 -- Assumes nothing.
 use Prim.Native.Nat.{_-_}
-use mathlib.Core.Path.{sym, _∙_}
 use native.Mathlib.Omega.{arith}
 use Rattle.log_batch.specs.Body.{readBody}
 use Rattle.speed.proofs.Counting.{Along, at-start, item-more, few-counted, end-counted, refusal-counted}

@@ -4,7 +4,6 @@ use mathlib.Core.Path.{ap}
 use Rattle.item_reader.specs.Cursor.{leads}
 use borrow.Author.Needs.{needs}
 use Rattle.item_reader.specs.declared.Step.{Step}
-use Rattle.item_reader.specs.declared.Stepped.{Stepped}
 use Rattle.item_reader.proofs.Cursor.step.Statement.{statement}
 use Rattle.item_reader.proofs.Cursor.step.Tie as tie
 
