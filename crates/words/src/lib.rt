@@ -2,6 +2,8 @@
 // of bytes, the lesser of two and a byte as a number. From codec.rs, the part that log batches use.
 //
 // Every public function takes any arguments. A place may lie anywhere, past the end too, and what does not fit is not written.
+#![tactic(auto)]
+
 ghost use Rattle.std.specs.Prelude.{◌≡◌, [], ◌∷◌, ℕ, min, ◌<◌, ◌^◌, get_or};
 ghost use Rattle.words.specs.Byte.{Bytes};
 ghost use Rattle.words.specs.Word.{big_endian, little_endian, big_endian_bytes, little_endian_bytes, read_u64, read_u32};
