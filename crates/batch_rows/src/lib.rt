@@ -1,4 +1,6 @@
 // Whole batches, read into rows of words that the caller lends, and written from them.
+#![tactic(auto)]
+
 ghost use Rattle.std.specs.Prelude.{◌≡◌};
 ghost use Rattle.item_row.specs.Row.{item_row_count};
 ghost use Rattle.rows_writer.specs.Rows.{measure_rows, rows_bytes};
@@ -11,7 +13,7 @@ use log_item::Span;
 use refusal::Refusal;
 
 // How much a batch holds, and where its body and its block stand; 0 0 where it is refused.
-#[derive(Drop)]
+#[derive(Clone, Copy)]
 pub struct BatchCheck {
     pub check: BodyCheck,
     pub body: Span,

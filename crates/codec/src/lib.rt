@@ -3,6 +3,8 @@
 //
 // Words stand in a crate below this one; their functions have their names here too. Every public function takes any arguments: a place may
 // lie anywhere, past the end too, and what does not fit is not written.
+#![tactic(auto)]
+
 ghost use Rattle.std.specs.Prelude.{◌≡◌, ◌+◌, ◌-◌, ◌<◌, ◌≤◌, min, length};
 ghost use Rattle.codec.specs.Number.{read_number};
 ghost use Rattle.codec.specs.Shortest.{shortest};
@@ -15,7 +17,7 @@ pub use words::{
 };
 
 // What stands at a place: a number and the place after it; or the bytes end inside or before it; or its tenth byte is above 1.
-#[derive(Drop)]
+#[derive(Clone, Copy)]
 pub enum NumberRead {
     Done { value: u64, next: usize },
     Eof,

@@ -1,4 +1,6 @@
 // The CRC-32 of IEEE 802.3, a byte at a time.
+#![tactic(auto)]
+
 ghost use Rattle.std.specs.Prelude.{◌≡◌};
 ghost use Rattle.std.specs.Int.Bits.{bit_xor};
 ghost use Rattle.crc.specs.Crc.{steps, crc_of};

@@ -1,6 +1,8 @@
 // The lines of the program itemlist, each put at a place of a lent buffer.
 //
 // Every public function takes any arguments: a place may lie past the end, and a line that has no room is not begun.
+#![tactic(auto)]
+
 ghost use Rattle.std.specs.Prelude.{◌≡◌, ◌++◌, ◌+◌, ◌≤◌, length, take};
 ghost use Rattle.words.specs.Write.{wrote_at, placed};
 ghost use Rattle.item_lines.specs.Decimal.{decimal as Decimal·decimal};

@@ -5,6 +5,8 @@
 // rows of an item of entries are read in the same way, one at a time, by `next_row_lem`. The borrow checker covers no function over the reader
 // itself, so those are few and thin, and the work is done on the slice and numbers. A cursor is the reader without the body: whoever has
 // the body beside it steps by value, and is covered.
+#![tactic(auto)]
+
 ghost use Rattle.std.specs.Prelude.{◌≡◌};
 ghost use Rattle.log_batch.specs.Seal.{sealed_part};
 ghost use Rattle.item_reader.specs.Rows.{next_row};
@@ -18,7 +20,7 @@ use refusal::Refusal;
 
 // Where the rows of an item stand that are still to be read: the place of the next tail, the total before it, the index of its entry,
 // and how many there are. No caller sees them, since where none is left the index is the one after the last, which is never shown.
-#[derive(Drop)]
+#[derive(Clone, Copy)]
 pub struct EntryRows {
     at: usize,
     total: u32,
@@ -27,7 +29,7 @@ pub struct EntryRows {
 }
 
 // A row, and the rows after it; or that there is none left; or why its tail is refused.
-#[derive(Drop)]
+#[derive(Clone, Copy)]
 pub enum RowRead {
     Row { row: EntryIndex, rest: EntryRows },
     End,
@@ -35,7 +37,7 @@ pub enum RowRead {
 }
 
 // What a step answers: an item, and where its rows stand; or that there is none left; or the body's refusal.
-#[derive(Drop)]
+#[derive(Clone, Copy)]
 pub enum Next {
     Item { item: LogItem, rows: EntryRows },
     End,
@@ -44,7 +46,7 @@ pub enum Next {
 
 // A place to step from in a body that is lent at each step. One that was started on a body stands at an item of it or at its end, or has
 // its refusal.
-#[derive(Drop)]
+#[derive(Clone, Copy)]
 pub struct Cursor {
     // the place of the next item, and the total and the number of entries before it
     pub at: usize,
@@ -58,14 +60,14 @@ pub struct Cursor {
 }
 
 // Where a cursor stands after a step, and what the step answers.
-#[derive(Drop)]
+#[derive(Clone, Copy)]
 pub struct Stepped {
     pub cursor: Cursor,
     pub answer: Next,
 }
 
 // A reader of the body that it was opened on: the body, and what a cursor holds.
-#[derive(Drop)]
+#[derive(Clone, Copy)]
 pub struct ItemReader<'a> {
     pub body: &'a [u8],
     pub at: usize,
@@ -77,7 +79,7 @@ pub struct ItemReader<'a> {
 }
 
 // What a step changes, and what it answers.
-#[derive(Drop)]
+#[derive(Clone, Copy)]
 struct Step {
     at: usize,
     total: u32,

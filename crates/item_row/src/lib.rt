@@ -1,12 +1,14 @@
 // An item as seven words: group, type, and five words by type and kind. The layout is that of raft_log.h. And, in specs/, what a
 // caller outside gets back.
+#![tactic(auto)]
+
 ghost use Rattle.std.specs.Prelude.{◌≡◌};
 ghost use Rattle.item_row.specs.Row.{span_of, command_row, key_row, row_item};
 
 use log_item::{Command, EntryIndexes, KeyValue, LogItem, LogItemContent, Op, Span};
 
 // The item that words spell, or why they spell none.
-#[derive(Drop)]
+#[derive(Clone, Copy)]
 pub enum ItemRowRead {
     Item(LogItem),
     Refused(u32),

@@ -2,6 +2,8 @@
 //
 // Every public function takes any arguments: a place may lie past the end, a word that is not there is empty, and a byte that is no digit
 // counts as the digit 0.
+#![tactic(auto)]
+
 ghost use Rattle.std.specs.Prelude.{◌≡◌, ◌++◌, ◌+◌, ◌*◌, ◌%◌, ◌^◌, min, length, get_or, take, drop};
 ghost use Rattle.words.specs.Part.{seen, front_of};
 ghost use Rattle.bytes.specs.Bytes.{index_of};

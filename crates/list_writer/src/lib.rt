@@ -2,6 +2,8 @@
 // refusal, or its length and entry total. From log_batch.rs, the encode of LogItemBatch.
 //
 // Every public function takes any rows and counts, and spans that lie anywhere. A refused body is not written at all.
+#![tactic(auto)]
+
 ghost use Rattle.std.specs.Prelude.{◌≡◌, length};
 ghost use Rattle.list_writer.specs.Bytes.{items_of, lengths_of, body_bytes};
 ghost use Rattle.list_writer.specs.Refusing.{fine};
@@ -18,7 +20,7 @@ const FOOTER_LEN: usize = 4;
 
 // The first refusal and its item; or number 0, the length of the body, footer included, and the sum of its entry lengths.
 // The length is 0 exactly where the body is refused.
-#[derive(Drop)]
+#[derive(Clone, Copy)]
 pub struct Measured {
     pub number: u32,
     pub item: usize,
@@ -103,7 +105,7 @@ pub fn refuse(number: u32, item: usize) -> Measured
 
 // The refusal's number and item; or number 0 and how many bytes were written. A body has some; a whole batch has none where there are no
 // items and no content.
-#[derive(Drop)]
+#[derive(Clone, Copy)]
 pub struct Encoded {
     pub number: u32,
     pub item: usize,

@@ -1,5 +1,7 @@
 // The rewrite and the fetch of locations, on rows of six words that the caller lends, laid out as raft_log.h says. Words that do not make up a
 // whole row at the end are not looked at and not written.
+#![tactic(auto)]
+
 ghost use Rattle.std.specs.Prelude.{◌≡◌, ◌+◌, ◌-◌, ◌≤◌, length, take, drop};
 ghost use Rattle.std.proofs.Math.Seq.{paste};
 ghost use Rattle.location_rules.specs.Row.{stops_at, row_start};

@@ -1,6 +1,8 @@
 // The rules of one row and of one table of locations, and what a rewrite and a fetch before a gate answer by numbers alone: where the rows
 // overlap, how many are replaced, the count, the run. They look at no list of rows: memtable asks them of records that lie in a row, and
 // location_rows of words. From memtable.rs, rewrite and fetch_entry_indexes_before.
+#![tactic(auto)]
+
 ghost use Rattle.std.specs.Prelude.{◌≡◌, ◌+◌, ◌-◌, ◌<◌, max};
 ghost use Rattle.location_rules.specs.Row.{stops_at, stop_of};
 ghost use Rattle.location_rules.specs.Parts.{indexes_fit, well_formed_by, ready_by};
@@ -11,7 +13,7 @@ use pipe_log::{Location, LogQueue};
 use words::least;
 
 // A table by value. Its rows are lent beside it, and row i has the index first + i.
-#[derive(Drop)]
+#[derive(Clone, Copy)]
 pub struct Table {
     // first index
     pub first: u64,
@@ -20,14 +22,14 @@ pub struct Table {
 }
 
 // The file number up to which rows of the append queue are rewritten, where one is given.
-#[derive(Drop)]
+#[derive(Clone, Copy)]
 pub enum Gate {
     None,
     Given(u64),
 }
 
 // What ends a run of rows: a row of the append queue, a row of the rewrite queue, or a row whose file number is above a gate.
-#[derive(Drop)]
+#[derive(Clone, Copy)]
 pub enum Stop {
     Append,
     Rewrite,
@@ -101,7 +103,7 @@ pub fn is_ready(wrong: usize, n: usize, first: u64) -> bool
 }
 
 // The answer to a rewrite: the refusal's number or 0, how many rows were replaced, and the rewritten count.
-#[derive(Drop)]
+#[derive(Clone, Copy)]
 pub struct Rewritten {
     pub number: u32,
     pub replaced: usize,
@@ -109,7 +111,7 @@ pub struct Rewritten {
 }
 
 // The answer to a fetch: the refusal's number or 0, and the place and length of the run.
-#[derive(Drop)]
+#[derive(Clone, Copy)]
 pub struct Fetched {
     pub number: u32,
     pub place: usize,
@@ -117,7 +119,7 @@ pub struct Fetched {
 }
 
 // The overlap of a table and incoming rows: the table's rows start to end, and the incoming rows from `from` on. Nothing: 0, 0, 0.
-#[derive(Drop)]
+#[derive(Clone, Copy)]
 pub struct Overlap {
     pub start: usize,
     pub end: usize,

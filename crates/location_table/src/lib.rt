@@ -1,5 +1,7 @@
 // Tables of at most 64 locations, by value: what calls these functions holds no slice of locations, and is covered. Each lends its
 // arrays to the function of memtable that has its name.
+#![tactic(auto)]
+
 ghost use Rattle.std.specs.Prelude.{◌≡◌};
 ghost use Rattle.location_table.specs.Private.{rows_used};
 ghost use Rattle.location_table.specs.Values.{in_reach, rewrite_value, rows_value, fetch_value, answer_of, fetched_of};
@@ -8,7 +10,7 @@ use location_rules::{Fetched, Gate, Rewritten, Table, no_run, unchanged};
 use pipe_log::Location;
 
 // What a rewrite by value leaves: its answer, and the rows after it.
-#[derive(Drop)]
+#[derive(Clone, Copy)]
 pub struct AfterRewrite {
     pub answer: Rewritten,
     pub rows: [Location; 64],

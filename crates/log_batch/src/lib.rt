@@ -1,5 +1,7 @@
 // Bodies and whole batches, read and written: their types, and a batch's header, block and body. From log_batch.rs, LogItemBatch to
 // AtomicGroupStatus.
+#![tactic(auto)]
+
 mod body;
 mod front;
 mod seal;
@@ -25,7 +27,7 @@ pub use view::{check_entry, entry_view};
 
 // What a body holds: the first item_count rows of items and entry_count rows of entries; rows past them are blank. Keys and contents
 // are spans of the body. A refused reading has no rows, and its refusal's number is not 0.
-#[derive(Drop)]
+#[derive(Clone, Copy)]
 pub struct LogItemBatch {
     pub items: [LogItem; 256],
     pub item_count: usize,
@@ -41,14 +43,14 @@ pub struct LogItemBatch {
 }
 
 // The entry total that a reading must come to: any, or the length of the block's content.
-#[derive(Drop)]
+#[derive(Clone, Copy)]
 pub enum Wanted {
     Free,
     Exactly(usize),
 }
 
 // How much a body holds, with no table: numbers of items and entries, the entry total and the place after the last item; or its refusal.
-#[derive(Drop)]
+#[derive(Clone, Copy)]
 pub enum BodyCheck {
     Accepted {
         items: usize,
@@ -60,7 +62,7 @@ pub enum BodyCheck {
 }
 
 // Whether each number of a body has its shortest spelling; a refused body has its refusal.
-#[derive(Drop)]
+#[derive(Clone, Copy)]
 pub enum PlainForm {
     Yes,
     No,
@@ -68,7 +70,7 @@ pub enum PlainForm {
 }
 
 // What a mark says of its group of batches.
-#[derive(Drop)]
+#[derive(Clone, Copy)]
 pub enum AtomicGroupStatus {
     Begin,
     Middle,
@@ -76,7 +78,7 @@ pub enum AtomicGroupStatus {
 }
 
 // The status that an item marks and the group's number; or that it is no mark; or why it is refused.
-#[derive(Drop)]
+#[derive(Clone, Copy)]
 pub enum StatusRead {
     Mark { id: u64, status: AtomicGroupStatus },
     NoMark,
@@ -84,7 +86,7 @@ pub enum StatusRead {
 }
 
 // The frame of a batch, as its header states it.
-#[derive(Drop)]
+#[derive(Clone, Copy)]
 pub struct LogBatch {
     // where the body starts
     pub offset: usize,
@@ -95,7 +97,7 @@ pub struct LogBatch {
 }
 
 // The frame of a batch; or why its header is refused.
-#[derive(Drop)]
+#[derive(Clone, Copy)]
 pub enum HeaderRead {
     Done { batch: LogBatch },
     Refused(u32),

@@ -2,6 +2,8 @@
 // EntryIndexes to LogItem.
 //
 // Every public function takes any arguments: a place may lie anywhere, past the end too. A refusal is a number of document 01.
+#![tactic(auto)]
+
 mod entries;
 mod keys;
 mod measuring;
@@ -23,75 +25,75 @@ use piece::{read_byte, read_number_in};
 pub use prefix::{INTERNAL_KEY_PREFIX, lies_in, starts_with};
 
 // Where bytes stand in the body.
-#[derive(Drop)]
+#[derive(Clone, Copy)]
 pub struct Span {
     pub at: usize,
     pub len: usize,
 }
 
 // Which spellings of a number are taken: any permitted one, or the shortest alone.
-#[derive(Drop)]
+#[derive(Clone, Copy)]
 pub enum Form {
     Any,
     Plain,
 }
 
 // A number or a byte, and the place after it; or why it is refused.
-#[derive(Drop)]
+#[derive(Clone, Copy)]
 pub enum Field {
     Done { value: u64, next: usize },
     Refused(u32),
 }
 
 // A span, and the place after it; or why it is refused.
-#[derive(Drop)]
+#[derive(Clone, Copy)]
 enum SpanRead {
     Done { span: Span, next: usize },
     Refused(u32),
 }
 
 // A group's log is cleaned, or compacted up to an index.
-#[derive(Drop)]
+#[derive(Clone, Copy)]
 pub enum Command {
     Clean,
     Compact { index: u64 },
 }
 
 // What is done with a key. A delete has no content.
-#[derive(Drop)]
+#[derive(Clone, Copy)]
 pub enum Op {
     Put { value: Span },
     Del,
 }
 
-#[derive(Drop)]
+#[derive(Clone, Copy)]
 pub struct KeyValue {
     pub key: Span,
     pub op: Op,
 }
 
 // How many entries, and the index of the first (0 where there is none). The rows follow in the body as tails.
-#[derive(Drop)]
+#[derive(Clone, Copy)]
 pub struct EntryIndexes {
     pub count: usize,
     pub first_index: u64,
 }
 
-#[derive(Drop)]
+#[derive(Clone, Copy)]
 pub enum LogItemContent {
     EntryIndexes(EntryIndexes),
     Command(Command),
     Kv(KeyValue),
 }
 
-#[derive(Drop)]
+#[derive(Clone, Copy)]
 pub struct LogItem {
     pub raft_group_id: u64,
     pub content: LogItemContent,
 }
 
 // One entry: its index, and where its bytes stand in the block's content.
-#[derive(Drop)]
+#[derive(Clone, Copy)]
 pub struct EntryIndex {
     pub index: u64,
     pub entry_offset: u32,
@@ -99,7 +101,7 @@ pub struct EntryIndex {
 }
 
 // An item, the place of its tails, the place after it, and the total and the number of entries after it; or why it is refused.
-#[derive(Drop)]
+#[derive(Clone, Copy)]
 pub enum ItemRead {
     Done {
         item: LogItem,
@@ -113,7 +115,7 @@ pub enum ItemRead {
 
 // The place after an item, and the total and the number of entries after it; or why it is refused; or, where shortest numbers are asked
 // for, that one is padded.
-#[derive(Drop)]
+#[derive(Clone, Copy)]
 pub enum Passed {
     Done {
         next: usize,
@@ -125,14 +127,14 @@ pub enum Passed {
 }
 
 // An item up to its tails, and the place after that; or why it is refused.
-#[derive(Drop)]
+#[derive(Clone, Copy)]
 pub enum HeadRead {
     Done { item: LogItem, next: usize },
     Refused(u32),
 }
 
 // A tail, which is the total after its entry, and the place after it; or why it is refused.
-#[derive(Drop)]
+#[derive(Clone, Copy)]
 pub enum TailRead {
     Done { total: u32, next: usize },
     Refused(u32),
@@ -140,52 +142,52 @@ pub enum TailRead {
 
 // The length of an item up to its tails, where all above 4,294,967,295 count as one more than that, and how many rows it uses; or why
 // it is refused.
-#[derive(Drop)]
+#[derive(Clone, Copy)]
 pub enum HeadSize {
     Fine { len: usize, count: usize },
     Refused(u32),
 }
 
 // The place after a piece of an item; or why it is not written.
-#[derive(Drop)]
+#[derive(Clone, Copy)]
 pub enum PartWrote {
     Next(usize),
     Refused(u32),
 }
 
 // The place after an item and the total after it; or why it is not written.
-#[derive(Drop)]
+#[derive(Clone, Copy)]
 pub enum ItemWrote {
     Next { next: usize, total: u32 },
     Refused(u32),
 }
 
 // The length of tails and the total after them; or a tail is above 4,294,967,295.
-#[derive(Drop)]
+#[derive(Clone, Copy)]
 enum TailsSize {
     Fine { len: usize, total: u32 },
     TooLarge,
 }
 
-#[derive(Drop)]
+#[derive(Clone, Copy)]
 enum CommandRead {
     Done { command: Command, next: usize },
     Refused(u32),
 }
 
-#[derive(Drop)]
+#[derive(Clone, Copy)]
 enum KeyValueRead {
     Done { key_value: KeyValue, next: usize },
     Refused(u32),
 }
 
-#[derive(Drop)]
+#[derive(Clone, Copy)]
 enum EntryIndexesRead {
     Done { entries: EntryIndexes, next: usize },
     Refused(u32),
 }
 
-#[derive(Drop)]
+#[derive(Clone, Copy)]
 enum ContentRead {
     Done {
         content: LogItemContent,

@@ -1,14 +1,14 @@
 // Where an entry lies in the log files: its queue, file and block, and its place in the block's content.
 
 // The two queues of log files.
-#[derive(Drop)]
+#[derive(Clone, Copy)]
 pub enum LogQueue {
     Append,
     Rewrite,
 }
 
 // The location of one entry. The Rust keeps the first four in a FileBlockHandle within an EntryIndex.
-#[derive(Drop)]
+#[derive(Clone, Copy)]
 pub struct Location {
     pub queue: LogQueue,
     // file number

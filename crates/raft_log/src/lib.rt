@@ -1,6 +1,8 @@
 // The functions of the other crates for C and Rust: numbers, bytes, and rows of words. raft_log.h says what each row and each word is.
 //
 // Each but the checksum returns a refusal's number, or 0, and sets `answer` at each call.
+#![tactic(auto)]
+
 mod locations;
 mod reading;
 mod writing;

@@ -3,14 +3,14 @@ use crate::{batches, bodies, locations, number};
 use libc::{STDIN_FILENO, STDOUT_FILENO};
 
 // Lines that are a case, and those on which both answers are the same.
-#[derive(Drop)]
+#[derive(Clone, Copy)]
 pub(crate) struct Counts {
     pub(crate) cases: u64,
     pub(crate) agree: u64,
 }
 
 // How a line came out.
-#[derive(Drop)]
+#[derive(Clone, Copy)]
 pub(crate) enum Outcome {
     Agrees,
     Differs,

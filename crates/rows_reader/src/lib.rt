@@ -1,5 +1,7 @@
 // Reading a body into rows of words that the caller lends, seven to an item and three to an entry: a checking pass decides, and a filling
 // pass cannot refuse. No table is made on the way.
+#![tactic(auto)]
+
 ghost use Rattle.std.specs.Prelude.{◌≡◌, ◌+◌, ◌≤◌, [], ◌∷◌, length};
 ghost use Rattle.log_item.specs.declared.Form.TheVariants.{Any};
 ghost use Rattle.item_row.specs.Row.{item_words, key_words};

@@ -2,6 +2,8 @@
 // and the length, and a writing pass cannot refuse. Words behind the last whole row are not looked at.
 //
 // Every public function takes any words, and spans that lie anywhere. A refused body is not written at all.
+#![tactic(auto)]
+
 ghost use Rattle.std.specs.Prelude.{◌≡◌, ◌+◌, ◌*◌, ◌≤◌, length, get_or};
 ghost use Rattle.item_row.specs.Row.{item_of_row};
 ghost use Rattle.list_writer.specs.Answers.{MeasuredWritten};

@@ -1,6 +1,8 @@
 // The check without a checksum and the stepping reader on numbers and bytes: a static library for compare/bench alone.
 //
 // Each function returns 0 or a refusal's number, and sets `answer` at each call.
+#![tactic(auto)]
+
 ghost use Rattle.std.specs.Prelude.{◌≡◌, List, length};
 ghost use Rattle.log_batch.specs.Seal.{sealed_part};
 ghost use Rattle.log_item.specs.declared.Form.TheVariants.{Any};

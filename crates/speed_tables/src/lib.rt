@@ -2,6 +2,8 @@
 // that uses one of the two.
 //
 // Each function returns 0 or a refusal's number, and sets `answer` at each call.
+#![tactic(auto)]
+
 ghost use Rattle.std.specs.Prelude.{◌≡◌};
 ghost use Rattle.log_batch.specs.Body.{read_body};
 ghost use Rattle.item_row.specs.Reply.{reply};

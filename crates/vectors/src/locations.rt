@@ -4,7 +4,7 @@ use crate::text;
 use pipe_log::{Location, LogQueue};
 
 // At most 64 rows, and how many there are.
-#[derive(Drop)]
+#[derive(Clone, Copy)]
 pub(crate) struct Run {
     pub(crate) rows: [Location; 64],
     pub(crate) len: usize,

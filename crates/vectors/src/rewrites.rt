@@ -5,7 +5,7 @@ use location_rules::{Gate, Table};
 use pipe_log::Location;
 
 // A table and its rows.
-#[derive(Drop)]
+#[derive(Clone, Copy)]
 struct Memtable {
     rows: [Location; 64],
     len: usize,

@@ -10,21 +10,21 @@ ghost use Rattle.words.specs.Word.{big_endian, little_endian, big_endian_bytes, 
 ghost use Rattle.words.specs.Write.{wrote_at, placed};
 
 // What writing at a place did: the place after what was written, or nothing for lack of room.
-#[derive(Drop)]
+#[derive(Clone, Copy)]
 pub enum Wrote {
     Next(usize),
     NoRoom,
 }
 
 // A word of 64 bits and the place after it, or the bytes end inside or before it.
-#[derive(Drop)]
+#[derive(Clone, Copy)]
 pub enum U64Read {
     Done { value: u64, next: usize },
     Eof,
 }
 
 // A word of 32 bits and the place after it, or the bytes end inside or before it.
-#[derive(Drop)]
+#[derive(Clone, Copy)]
 pub enum U32Read {
     Done { value: u32, next: usize },
     Eof,
