@@ -14,7 +14,7 @@ import os
 import re
 import sys
 
-# What a name is called where its snake case is taken already.
+# What a name is called where its snake case is taken already; a name of src/ keeps its own, and so does a theorem of Determined.antt.
 OTHERWISE = {
     "entryCount": "entry_count_of",
     "firstIndex": "first_index_of",
@@ -135,7 +135,7 @@ def main():
 
             def put(m):
                 n = m.group(0)
-                if n not in names or n in foreign[p] or n in OTHERWISE and n == n.replace("-", "_").lower() and p.endswith("/Determined.antt"):
+                if n not in names or n in foreign[p] or n in OTHERWISE and "-" not in n and n == n.lower() and p.endswith(("/Determined.antt", ".rt")):
                     return n
                 before = line[m.start() - 1] if m.start() else " "
                 if before == "." and n not in fields and not re.search(r"(?:^|[^\w'.-])[\w-]+\.$", line[: m.start()]):

@@ -2,7 +2,7 @@
 // total before the next item.
 //
 // Opening does the whole reading; then `next` hands out the same items in the same order and an end, or none and the same refusal. The
-// rows of an item of entries are read in the same way, one at a time, by `next_row_lem`. The borrow checker covers no function over the reader
+// rows of an item of entries are read in the same way, one at a time, by `next_row`. The borrow checker covers no function over the reader
 // itself, so those are few and thin, and the work is done on the slice and numbers. A cursor is the reader without the body: whoever has
 // the body beside it steps by value, and is covered.
 #![tactic(auto)]
@@ -207,7 +207,7 @@ pub fn nth(body: &[u8], signature: u32, k: usize) -> Next
 
 // The next of an item's rows, in the body that the item was read from, footer included: first with the rows that came with the item,
 // then with the rest that comes with each row.
-pub fn next_row_lem(body: &[u8], rows: EntryRows) -> RowRead
+pub fn next_row(body: &[u8], rows: EntryRows) -> RowRead
     ensures { result ≡ next_row (sealed_part body.now) rows }
 {
     let left = rows.left;

@@ -75,7 +75,7 @@ fn count_rows(body: &[u8], rows: EntryRows) -> usize
     let mut rest = rows;
     let mut n = 0;
     loop {
-        match item_reader::next_row_lem(body, rest) {
+        match item_reader::next_row(body, rest) {
             RowRead::Row {
                 row: _,
                 rest: after,

@@ -63,7 +63,7 @@ fn entry_rows(body: &[u8], rows: EntryRows, count: usize) {
 
 // The next row, and the rows after it.
 fn entry(body: &[u8], rows: EntryRows) -> EntryRows {
-    match item_reader::next_row_lem(body, rows) {
+    match item_reader::next_row(body, rows) {
         RowRead::Row { row, rest } => {
             tables::entry(row);
             rest
