@@ -15,6 +15,12 @@ returns-then-batch-ne0 c = front_compressed _ (learnt header_got c.decode_header
 pub slice_bounds-check_block-count : goal.slice_bounds-check_block-count
 slice_bounds-check_block-count c = let k = header_known c.args.buf.now (learnt header_got c.decode_header.ensures c.in-Done.is) in omega (arith, k.0, k.1)
 
+pub slice_bounds-check_block-start : goal.slice_bounds-check_block-start
+slice_bounds-check_block-start c = let k = header_known c.args.buf.now (learnt header_got c.decode_header.ensures c.in-Done.is) in omega (arith, k.0, k.1)
+
+pub slice_bounds-check_block-end : goal.slice_bounds-check_block-end
+slice_bounds-check_block-end c = let k = header_known c.args.buf.now (learnt header_got c.decode_header.ensures c.in-Done.is) in omega (arith, k.0, k.1)
+
 pub returns-then-broken-ne-NONE : goal.returns-then-broken-ne-NONE
 returns-then-broken-ne-NONE c = front_broken _ (learnt header_got c.decode_header.ensures c.in-Done.is) c.if-buf-batch.false c.if-batch-ne0.false c.check_block-broken.ensures c.if-broken-ne-NONE.true
 

@@ -7,7 +7,7 @@ use Rattle.log_batch.proofs.LogItemBatch.fill_from.Given as goal
 
 abbrev pub invariant-loop-tails : goal.invariant-loop-tails
 invariant-loop-tails l =
-    (l.t.block ≡ record { l.at = 0; l.len = 0 }) × Filling l.buf l.many l.t.items l.t.entries l.t.refusal l.i l.j l.at l.total l.tails l.index
+    (l.t.block ≡ record { at = 0; len = 0 }) × Filling l.buf l.many l.t.items l.t.entries l.t.refusal l.i l.j l.at l.total l.tails l.index
 
 abbrev pub decreases-loop-tails : goal.decreases-loop-tails
 decreases-loop-tails l =

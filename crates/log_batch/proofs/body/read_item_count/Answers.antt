@@ -1,10 +1,11 @@
 -- `log_batch::body::read_item_count` meets its contract.
 -- Assumes nothing.
-use Rattle.std.proofs.Common.{sym, ⊎_elim, arith}
+use Rattle.std.proofs.Common.{sym, arith}
 use Rattle.log_item.specs.Answers.{field_got}
 use Rattle.log_item.proofs.Pieces.{learnt, number_taken, number_plain, number_padded, number_refused}
 use Rattle.log_batch.proofs.Checking.{count_broken, items_many, count_good}
 use Rattle.log_batch.proofs.body.read_item_count.Goals as goal
+use Rattle.log_batch.proofs.body.read_item_count.Goals.{in-Plain+else-next-var_u64_len, in_default}
 
 pub returns-then-next-var_u64_len : goal.returns-then-next-var_u64_len
 returns-then-next-var_u64_len c =
@@ -14,14 +15,18 @@ returns-then-next-var_u64_len c =
 pub returns-then-value-gt256 : goal.returns-then-value-gt256
 returns-then-value-gt256 c =
     let e = learnt field_got c.read_number.ensures c.in-Done.is in
-    items_many _ _ (sym (⊎_elim (λ w. number_plain _ _ e w.1.given.1 w.2.ensures (omega (arith, w.3.left)))
-    (λ w. number_taken _ _ e w.1.given.1) c.match-form.branch)) c.if-value-gt256.true
+    items_many _ _ (sym (elim c.match-form.branch [
+      in-Plain+else-next-var_u64_len w ↦ number_plain _ _ e w.in-Plain.is w.var_u64_len.ensures (omega (arith, w.if-next-var_u64_len.false))
+      | in_default w ↦ number_taken _ _ e w.in_default.is
+    ])) c.if-value-gt256.true
 
 pub returns-else-value-gt256 : goal.returns-else-value-gt256
 returns-else-value-gt256 c =
     let e = learnt field_got c.read_number.ensures c.in-Done.is in
-    count_good _ _ (sym (⊎_elim (λ w. number_plain _ _ e w.1.given.1 w.2.ensures (omega (arith, w.3.left)))
-    (λ w. number_taken _ _ e w.1.given.1) c.match-form.branch)) c.if-value-gt256.false
+    count_good _ _ (sym (elim c.match-form.branch [
+      in-Plain+else-next-var_u64_len w ↦ number_plain _ _ e w.in-Plain.is w.var_u64_len.ensures (omega (arith, w.if-next-var_u64_len.false))
+      | in_default w ↦ number_taken _ _ e w.in_default.is
+    ])) c.if-value-gt256.false
 
 pub returns-in-Refused : goal.returns-in-Refused
 returns-in-Refused c =
