@@ -93,6 +93,7 @@ fn is_ready(words: &[u64], first: u64) -> bool
 }
 
 // Whether each row is a location's.
+#[tactic(auto, using(crate::proofs::Scans::checked_broken, crate::proofs::Scans::checked_next))]
 fn are_rows(words: &[u64]) -> bool
     ensures { result ≡ are_rows (location_count words.now) words.now }
 {

@@ -66,6 +66,9 @@ unfolding rows_used
 used_le len many n e = chosen (in_reach len many) len n (λ z. leb-true len 64 ((and-eq-true_iff (leb len 64) (leb many 64)).0 z).0) e
 
 module _ (xs : List Location) (n : ℕ) (l : n ≤ 64) (long : length xs ≡ 64) where
+  pub part_in : n ≤ length xs
+  part_in = omega arith
+
   pub part_long : length (take n xs) ≡ n
   part_long = length-take-le n xs (omega arith)
 
