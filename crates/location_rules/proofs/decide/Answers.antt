@@ -1,13 +1,7 @@
 -- `location_rules::decide` meets its contract: a law for each way out.
 -- Assumes nothing.
-use Rattle.location_rules.proofs.Deciding.{broken, not_ready, apart, starts_late, starts_early, gated, ungated}
+use Rattle.location_rules.proofs.Deciding.{apart, starts_late, starts_early, gated, ungated}
 use Rattle.location_rules.proofs.decide.Goals as goal
-
-pub returns-then-not-good : goal.returns-then-not-good
-returns-then-not-good c = broken _ _ _ _ _ _ _ _ c.if-not-good.true c.unchanged.ensures
-
-pub returns-then-not-ready : goal.returns-then-not-ready
-returns-then-not-ready c = not_ready _ _ _ _ _ _ _ _ c.if-not-good.false c.if-not-ready.true c.unchanged-then-not-ready.ensures
 
 pub returns-then-limit-start : goal.returns-then-limit-start
 returns-then-limit-start c = apart _ _ _ _ _ _ _ _ c.if-not-good.false c.if-not-ready.false c.if-limit-start.true c.unchanged-then-limit-start.ensures
