@@ -5,7 +5,7 @@
 
 ghost use Rattle.std.specs.Prelude.{◌≡◌, ◌++◌, ◌+◌, ◌≤◌, length, take};
 ghost use Rattle.words.specs.Write.{wrote_at, placed};
-ghost use Rattle.item_lines.specs.Decimal.{decimal as Decimal·decimal};
+ghost use Rattle.item_lines.specs.Decimal.{decimal};
 ghost use Rattle.item_lines.specs.Line.{item_line, command_line, key_line, entry_line, sums_line, refused_line};
 ghost use Rattle.item_lines.specs.Private.{Longer, place_after};
 
@@ -15,7 +15,7 @@ use words::Wrote;
 
 // Puts a number in ten.
 fn decimal(n: u64, out: &mut [u8], at: usize) -> Wrote
-    ensures { (result ≡ wrote_at out.old at (Decimal·decimal n)) × (out.new ≡ placed out.old at (Decimal·decimal n)) }
+    ensures { (result ≡ wrote_at out.old at (decimal n)) × (out.new ≡ placed out.old at (decimal n)) }
 {
     let mut digits = [0u8; 20];
     let mut i: usize = 19;
@@ -111,7 +111,7 @@ pub fn refused_line(why: Refusal, out: &mut [u8], at: usize) -> Wrote
 // Puts a label and a number behind the first bytes of a line, and answers how many there are then.
 fn field(label: &[u8], n: u64, line: &mut [u8], at: usize) -> usize
     requires { at + length label.now + 20 ≤ length line.old }
-    ensures longer { Longer line.old at (label.now ++ Decimal·decimal n) line.new result }
+    ensures longer { Longer line.old at (label.now ++ decimal n) line.new result }
     ensures upper_bound { result ≤ at + length label.now + 20 }
 {
     let next = place(words::write_bytes(label, line, at), at);

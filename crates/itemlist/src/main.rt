@@ -1,28 +1,33 @@
 // Lists the items of a body without footer, which it reads from standard input: a line of sums, then a line for each command, key and
 // entry; or the refusal alone. The lines wait in a buffer, which goes to standard output where it is full; `at` is the number of bytes
 // that wait, and each function answers how many wait after it.
-use libc::{STDIN_FILENO, STDOUT_FILENO};
+#![tactic(auto)]
+
 use log_batch::LogItemBatch;
 use log_item::{EntryIndex, LogItem};
+use std::io::{self, Read};
 use words::Wrote;
 
-fn main() {
-    let mut input = io::large_buffer();
-    let n = io::read_full(STDIN_FILENO, &mut input);
-    list(log_batch::read_items(&input[..n]));
+// A longer body is read as cut there.
+const MOST: u64 = 65_536;
+
+fn main(rt: HostRuntime) -> io::Result<()> {
+    let mut input = Vec::new(rt.alloc());
+    rt.reader().take(MOST).read_to_end(&mut input)?;
+    list(&rt, log_batch::read_items(input.as_slice()))
 }
 
-fn list(table: LogItemBatch) {
-    let mut space = io::large_buffer();
+fn list(rt: &impl Print, table: LogItemBatch) -> io::Result<()> {
+    let mut space = [0u8; 65_536];
     let out: &mut [u8] = &mut space;
     let why = table.refusal;
     let end = if why.number == refusal::NONE {
         let start = sums(table, out);
-        rows(table, out, start)
+        rows(rt, table, out, start)?
     } else {
         after(item_lines::refused_line(why, out, 0))
     };
-    flush(out, end);
+    flush(rt, out, end)
 }
 
 fn sums(table: LogItemBatch, out: &mut [u8]) -> usize {
@@ -34,7 +39,7 @@ fn sums(table: LogItemBatch, out: &mut [u8]) -> usize {
 
 // The items in order, each with the next rows as its entries. A reading never fills more rows than the table has; that neither place
 // passes it is tested for the proof alone.
-fn rows(table: LogItemBatch, out: &mut [u8], start: usize) -> usize {
+fn rows(rt: &impl Print, table: LogItemBatch, out: &mut [u8], start: usize) -> io::Result<usize> {
     let mut at = start;
     let mut i: usize = 0;
     let mut j: usize = 0;
@@ -43,20 +48,20 @@ fn rows(table: LogItemBatch, out: &mut [u8], start: usize) -> usize {
     loop {
         if 0 < left {
             if 1024 <= j {
-                return at;
+                return Ok(at);
             }
-            at = entry_line(group, table.entries[j], out, at);
+            at = entry_line(rt, group, table.entries[j], out, at)?;
             j += 1;
             left -= 1;
         } else {
             if table.item_count <= i {
-                return at;
+                return Ok(at);
             }
             if 256 <= i {
-                return at;
+                return Ok(at);
             }
             let item = table.items[i];
-            at = item_line(item, out, at);
+            at = item_line(rt, item, out, at)?;
             group = item.raft_group_id;
             let entries = item.entries();
             left = entries.count;
@@ -65,22 +70,28 @@ fn rows(table: LogItemBatch, out: &mut [u8], start: usize) -> usize {
     }
 }
 
-fn entry_line(group: u64, row: EntryIndex, out: &mut [u8], at: usize) -> usize {
+fn entry_line(
+    rt: &impl Print,
+    group: u64,
+    row: EntryIndex,
+    out: &mut [u8],
+    at: usize,
+) -> io::Result<usize> {
     match item_lines::entry_line(group, row, out, at) {
-        Wrote::Next(next) => next,
+        Wrote::Next(next) => Ok(next),
         Wrote::NoRoom => {
-            flush(out, at);
-            after(item_lines::entry_line(group, row, out, 0))
+            flush(rt, out, at)?;
+            Ok(after(item_lines::entry_line(group, row, out, 0)))
         }
     }
 }
 
-fn item_line(item: LogItem, out: &mut [u8], at: usize) -> usize {
+fn item_line(rt: &impl Print, item: LogItem, out: &mut [u8], at: usize) -> io::Result<usize> {
     match item_lines::item_line(item, out, at) {
-        Wrote::Next(next) => next,
+        Wrote::Next(next) => Ok(next),
         Wrote::NoRoom => {
-            flush(out, at);
-            after(item_lines::item_line(item, out, 0))
+            flush(rt, out, at)?;
+            Ok(after(item_lines::item_line(item, out, 0)))
         }
     }
 }
@@ -93,8 +104,9 @@ fn after(wrote: Wrote) -> usize {
     }
 }
 
-fn flush(out: &[u8], at: usize) {
+fn flush(rt: &impl Print, out: &[u8], at: usize) -> io::Result<()> {
     if at <= out.len() {
-        io::write_all(STDOUT_FILENO, &out[..at]);
+        rt.write_all(&out[..at])?;
     }
+    Ok(())
 }

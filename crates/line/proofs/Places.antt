@@ -3,16 +3,16 @@
 use Prim.Native.Nat.{ℕ, zero, suc, ◌+◌, ◌-◌, ◌≤◌, ◌<◌, min, zero-le}
 use mathlib.Core.Path.{◌≡◌, refl, sym, ap, ◌∙◌}
 use mathlib.Core.Bool.{Bool, true, false}
-use mathlib.Core.List.{List, [], ◌∷◌}
+use mathlib.Core.List.{List, []}
 use native.Mathlib.Omega.{arith}
-use lib.Dec.{leb}
+use native.Mathlib.Numerals.{add-one}
+use lib.Dec.{leb, eqb}
 use lib.ListN.{length, get_or, take, drop, length-drop, drop_of_length-le}
-use lib.Seq.{take_all, take-length, drop-drop}
-use borrow.Author.Tests.{leb-true, leb-false, le-leb, lt-leb}
+use lib.Seq.{drop-cons, take_all, drop-drop}
+use borrow.Author.Tests.{eq-eqb, ne_eqb, leb-true, leb-false, le-leb, lt-leb}
 use denote.Ref.{Bor}
 use Rattle.words.specs.Part.{Part, seen, part_at, front_of}
-use Rattle.bytes.specs.Bytes.{index_of, slice}
-use Rattle.line.specs.Word.{space, words_from, word_of, between, ending, words_part, word_part}
+use Rattle.line.specs.Word.{index_of, space, words_from, word_of, between, ending, words_part, word_part}
 
 -- ---- the first of a byte
 
@@ -21,9 +21,31 @@ module _ (s : List ℕ) (at b : ℕ) where
   unfolding index_of
   behind_end h = let none : length s ≤ at = omega arith in rw (drop_of_length-le s none) (omega arith)
 
-  pub up_to_end : (r : ℕ) → r ≡ at + index_of b (slice at (length s) s) → r ≡ at + index_of b (drop at s)
-  unfolding slice
-  up_to_end r e = rw take-length at e
+-- what the loop holds: none stands from the place `at` up to another
+pub record Passed (s : List ℕ) (at b place : ℕ) : Type 0 where
+  pub within : place ≤ length s
+  pub same : place + index_of b (drop place s) ≡ at + index_of b (drop at s)
+
+module _ {s : List ℕ} {at b : ℕ} where
+  module _ {place : ℕ} (w : Passed s at b place) where
+    pub passed_end : length s ≤ place → place ≡ at + index_of b (drop at s)
+    unfolding index_of
+    passed_end h = let all : place + 0 ≡ at + index_of b (drop at s) = rw (drop_of_length-le s h) at w.same in omega arith
+
+    module _ (h : place < length s) where
+      pub passed_found : get_or s place 0 ≡ b → place ≡ at + index_of b (drop at s)
+      unfolding index_of
+      passed_found e = let first : eqb (get_or s place 0) b ≡ true = eq-eqb (get_or s place 0) b e in omega (arith, rw (drop-cons s place 0 h, first) at w.same)
+
+      pub passed_more : (get_or s place 0 ≡ b → ⊥) → Passed s at b (place + 1)
+      unfolding index_of
+      passed_more n = record {
+        within = omega arith;
+        same =
+            let other : eqb (get_or s place 0) b ≡ false = ne_eqb (get_or s place 0) b n in
+            let on : place + suc (index_of b (drop (suc place) s)) ≡ at + index_of b (drop at s) = rw (drop-cons s place 0 h, other) at w.same in
+            rw (add-one place) (omega arith);
+      }
 
 -- ---- a part
 
@@ -66,9 +88,6 @@ pub record From (line : List ℕ) (k at left : ℕ) : Type 0 where
   pub within : at ≤ length line
   pub same : words_from (drop at line) left ≡ words_from line k
 
-pub from_start : (line : List ℕ) (k : ℕ) → From line k 0 k
-from_start line k = record { within = zero-le; same = refl }
-
 -- what stands from a place on, where it is what stands from word k on
 suffix : (line : Bor (List ℕ)) (k at : ℕ) → at ≤ length line.now → drop at line.now ≡ words_from line.now k → part_at line at (length line.now - at) ≡ words_part line k
 suffix line k at within same =
@@ -109,13 +128,3 @@ word_front line words k n e f =
     let b : words.now ≡ words_from line.now k = ap (λ p. p.bytes) e in
     let q : words.ref_ptr ≡ ending line (words_from line.now k) = ap (λ p. p.place) e in
     rw (g, b, q)
-
--- ---- the first letter
-
-pub letter_some : (s : List ℕ) → 0 < length s → get_or s 0 0 ≡ get_or s 0 space
-letter_some [] h = absurd (omega arith)
-letter_some (x ∷ s) h = refl
-
-pub letter_none : (s : List ℕ) → length s ≤ 0 → space ≡ get_or s 0 space
-letter_none [] h = refl
-letter_none (x ∷ s) h = absurd (omega arith)

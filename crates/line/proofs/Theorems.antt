@@ -9,9 +9,8 @@ use native.Mathlib.Nat.{pow-suc}
 use lib.ListN.{length, drop_of_length-le}
 use lib.Seq.{take-append_seam, drop-append-add, take-length, take-nil}
 use borrow.Author.Tests.{ne_eqb}
-use Rattle.bytes.specs.Bytes.{index_after, index_of}
 use Rattle.words.specs.Word.{big_endian}
-use Rattle.line.specs.Word.{space, words_from, word_of, Solid}
+use Rattle.line.specs.Word.{index_of, space, words_from, word_of, Solid}
 use Rattle.line.specs.Hex.{hex_number, hex_bytes}
 use Rattle.line.proofs.Places.{none_from}
 use Rattle.line.proofs.Digits.{length_bytes}
@@ -23,12 +22,12 @@ behind_first x w free i h = free (suc i) (omega arith)
 
 -- where the first space stands
 at_seam : (w rest : List ℕ) → Solid w → index_of space (w ++ (space ∷ rest)) ≡ length w
-unfolding index_of index_after
+unfolding index_of
 at_seam [] rest free = refl
 at_seam (x ∷ w) rest free = rw (ne_eqb x space (free 0 (omega arith))) (ap suc (at_seam w rest (behind_first x w free)))
 
 at_end : (w : List ℕ) → Solid w → index_of space w ≡ length w
-unfolding index_of index_after
+unfolding index_of
 at_end [] free = refl
 at_end (x ∷ w) free = rw (ne_eqb x space (free 0 (omega arith))) (ap suc (at_end w (behind_first x w free)))
 

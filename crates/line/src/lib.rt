@@ -6,8 +6,7 @@
 
 ghost use Rattle.std.specs.Prelude.{◌≡◌, ◌++◌, ◌+◌, ◌*◌, ◌%◌, ◌^◌, min, length, get_or, take, drop};
 ghost use Rattle.words.specs.Part.{seen, front_of};
-ghost use Rattle.bytes.specs.Bytes.{index_of};
-ghost use Rattle.line.specs.Word.{space, between, word_of, words_part, word_part};
+ghost use Rattle.line.specs.Word.{index_of, space, between, word_of, words_part, word_part};
 ghost use Rattle.line.specs.Hex.{digit_of, hex_number, hex_bytes};
 
 // The place of the first b from a place on, or the length where there is none; a place past the end is answered as it is.
@@ -17,7 +16,14 @@ pub fn find(text: &[u8], at: usize, b: u8) -> usize
     if text.len() < at {
         return at;
     }
-    bytes::scan::find(text, at, text.len(), b)
+    let mut place = at;
+    while place < text.len() {
+        if text[place] == b {
+            return place;
+        }
+        place += 1;
+    }
+    place
 }
 
 // The bytes from one place up to another, as far as there are such; where the first lies behind the second or behind the text, nothing, at

@@ -1,12 +1,9 @@
 -- The loop that fills the table: what it knows before each turn, how a turn keeps that, and what the reading answers at each way out.
 -- Assumes nothing.
 use Rattle.std.proofs.Common.{◌≡◌, ℕ, suc, ◌+◌, ◌-◌, ◌*◌, ◌%◌, ◌^◌, ◌<◌, ◌≤◌, List, [], ◌∷◌, length, take, set, replicate, sym, refl, ap, ◌∙◌, inl, inr, append-nil, arith}
-use types.Run.{OneOf}
-use denote.Enum.Declared.{tag_of}
 use Rattle.refusal.specs.declared.Refusal.{Refusal}
 use Rattle.codec.specs.declared.NumberRead.{NumberRead}
 use Rattle.codec.specs.declared.NumberRead.TheVariants.{Done, Eof, Overflow}
-use Rattle.codec.specs.contracts.NumberRead.{the_type}
 use Rattle.log_item.specs.Got.{got, refused}
 use Rattle.log_item.specs.Entries.{entries_of, tail_row}
 use Rattle.codec.specs.Number.{number_got}
@@ -39,11 +36,10 @@ pub record Filling (s : List ℕ) (k : ℕ) (xs : List LogItem) (rows : List Ent
 -- ---- the count
 
 -- the keys 1 and 2 are those of the numbers that are broken
-pub not_done : (r : NumberRead) → OneOf (1 ∷ 2 ∷ []) (tag_of the_type r) → number_got r ≡ refused 7
-not_done (Done k q) (inl e) = absurd (omega arith)
-not_done (Done k q) (inr e) = absurd (omega arith)
-not_done Eof e = refl
-not_done Overflow e = refl
+pub not_done : (r : NumberRead) → ((n q : ℕ) → r ≡ Done n q → ⊥) → number_got r ≡ refused 7
+not_done (Done k q) h = absurd (h k q refl)
+not_done Eof h = refl
+not_done Overflow h = refl
 
 module _ (s : List ℕ) where
   pub begun : {k q : ℕ} → count Any s 0 ≡ got k q

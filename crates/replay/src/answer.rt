@@ -9,7 +9,7 @@ pub(crate) fn is_number(line: &[u8], k: usize, n: u64) -> bool {
 
 // Whether a word is this text.
 pub(crate) fn is_word(line: &[u8], k: usize, text: &[u8]) -> bool {
-    check::same(line::word(line, k), text)
+    line::word(line, k) == text
 }
 
 // Whether a word spells these bytes; `-` spells none. The buffer is longer than any bytes that are asked for, so that a word which is cut to it
@@ -20,7 +20,7 @@ pub(crate) fn is_bytes(line: &[u8], k: usize, bytes: &[u8]) -> bool {
     }
     let mut buf = [0u8; 2048];
     let n = line::bytes(line, k, &mut buf);
-    check::same(line::front(&buf, n), bytes)
+    line::front(&buf, n) == bytes
 }
 
 // Whether the answer from a word on is this refusal.

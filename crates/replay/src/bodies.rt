@@ -58,7 +58,7 @@ fn tails(
                 return 0;
             }
         }
-        index = std::num::wrapping_add_u64(index, 1);
+        index = index.wrapping_add(1);
         left -= 1;
     }
     word

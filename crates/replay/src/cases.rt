@@ -1,6 +1,7 @@
 // The lines of standard input, told apart by their first letter. Input comes in pieces of 65,536 bytes, each of which ends with a line.
 use crate::{batches, bodies, locations, number};
-use libc::{STDIN_FILENO, STDOUT_FILENO};
+use std::alloc::Global;
+use std::io::{self, Read};
 
 // Lines that are a case, and those on which both answers are the same.
 #[derive(Clone, Copy)]
@@ -20,60 +21,61 @@ pub(crate) enum Outcome {
 // As many pieces as there may be.
 const PIECES: usize = 64;
 
-pub(crate) fn run() {
+const PIECE: u64 = 65_536;
+
+pub(crate) fn run(rt: &(impl Input + Print), alloc: Global) -> io::Result<()> {
     let mut counts = Counts { cases: 0, agree: 0 };
     let mut k = 0;
     while k < PIECES {
-        counts = piece(counts);
+        counts = piece(rt, alloc, counts)?;
         k += 1;
     }
-    io::print_decimal(STDOUT_FILENO, counts.agree);
-    io::write_all(STDOUT_FILENO, b" of ");
-    io::print_decimal(STDOUT_FILENO, counts.cases);
-    io::write_all(STDOUT_FILENO, b" answers agree\n");
+    let agree = counts.agree;
+    let cases = counts.cases;
+    println!(rt; "{agree} of {cases} answers agree")
 }
 
 // The counts after the next piece of input.
-fn piece(before: Counts) -> Counts {
-    let mut space = io::large_buffer();
-    let n = io::read_full(STDIN_FILENO, &mut space);
-    lines(&space[..n], before)
+fn piece(rt: &(impl Input + Print), alloc: Global, before: Counts) -> io::Result<Counts> {
+    let mut text = Vec::new(alloc);
+    rt.reader().take(PIECE).read_to_end(&mut text)?;
+    lines(rt, text.as_slice(), before)
 }
 
-fn lines(text: &[u8], before: Counts) -> Counts {
+fn lines(rt: &impl Print, text: &[u8], before: Counts) -> io::Result<Counts> {
     let mut counts = before;
     let mut at = 0;
     while at < text.len() {
         let end = line::find(text, at, b'\n');
         if text.len() <= end {
-            return counts;
+            return Ok(counts);
         }
         let line = line::part(text, at, end);
-        counts = counted(counts, compared(line), line);
+        counts = counted(rt, counts, compared(line), line)?;
         at = end + 1;
     }
-    counts
+    Ok(counts)
 }
 
 // The counts after a line; one that differs is named.
-fn counted(counts: Counts, got: Outcome, line: &[u8]) -> Counts {
+fn counted(rt: &impl Print, counts: Counts, got: Outcome, line: &[u8]) -> io::Result<Counts> {
     match got {
-        Outcome::Agrees => Counts {
+        Outcome::Agrees => Ok(Counts {
             cases: more(counts.cases),
             agree: more(counts.agree),
-        },
+        }),
         Outcome::Differs => {
-            io::write_all(STDOUT_FILENO, b"differs: ");
-            io::write_all(STDOUT_FILENO, line::word(line, 0));
-            io::write_all(STDOUT_FILENO, b" ");
-            io::write_all(STDOUT_FILENO, line::word(line, 1));
-            io::write_all(STDOUT_FILENO, b"\n");
-            Counts {
+            rt.write_all(b"differs: ")?;
+            rt.write_all(line::word(line, 0))?;
+            rt.write_all(b" ")?;
+            rt.write_all(line::word(line, 1))?;
+            rt.write_all(b"\n")?;
+            Ok(Counts {
                 cases: more(counts.cases),
                 agree: counts.agree,
-            }
+            })
         }
-        Outcome::NoCase => counts,
+        Outcome::NoCase => Ok(counts),
     }
 }
 

@@ -1,5 +1,7 @@
 // Replays answers of the real crate: each line of standard input is a case and the Rust's answer to it, and the program says how many of its
 // own answers are the same. compare/make_replay makes the list; compare/check/src/replay.rs describes its lines.
+#![tactic(auto)]
+
 mod answer;
 mod batches;
 mod bodies;
@@ -8,6 +10,8 @@ mod items;
 mod locations;
 mod number;
 
-fn main() {
-    cases::run();
+use std::io;
+
+fn main(rt: HostRuntime) -> io::Result<()> {
+    cases::run(&rt, rt.alloc())
 }

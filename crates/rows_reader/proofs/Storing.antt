@@ -3,13 +3,10 @@
 -- Assumes nothing.
 use Rattle.std.proofs.Common.{◌≡◌, ℕ, ◌+◌, ◌-◌, ◌*◌, ◌%◌, ◌^◌, ◌<◌, ◌≤◌, Bool, true, false, leb, List, [], ◌∷◌, ◌++◌, length, take, drop, set, replicate, sym, refl, ap, ◌∙◌, zero-add, arith, length-append, leb-false, leb-true}
 use mathlib.Core.List.{flat_map}
-use types.Run.{OneOf}
-use denote.Enum.Declared.{tag_of}
 use lib.Seq.{sets-eq}
 use Rattle.codec.specs.Number.{read_number}
 use Rattle.codec.specs.declared.NumberRead.{NumberRead}
 use Rattle.codec.specs.declared.NumberRead.TheVariants.{Done}
-use Rattle.codec.specs.contracts.NumberRead.{the_type}
 use Rattle.log_item.specs.Got.{got, refused}
 use Rattle.log_item.specs.Entries.{entries_of, tail_row}
 use Rattle.log_item.specs.Reading.{head, tail}
@@ -48,7 +45,7 @@ never f e =
     let z : ◌≡◌ {A = ℕ} 0 1 = cc in
     absurd (omega arith)
 
-pub not_broken : {A : Type 0} {s items entries : List ℕ} {r : NumberRead} → Fits s items entries → r ≡ read_number s 0 → OneOf (1 ∷ 2 ∷ []) (tag_of the_type r) → A
+pub not_broken : {A : Type 0} {s items entries : List ℕ} {r : NumberRead} → Fits s items entries → r ≡ read_number s 0 → ((n q : ℕ) → r ≡ Done n q → ⊥) → A
 not_broken {s = s} {r = r} f e h = never f (none_counted Any s (sym (count_broken Any s (sym (number_broken s 0 (sym e) (not_done r h))))))
 
 pub few : {s items entries : List ℕ} {k q : ℕ} → Fits s items entries → read_number s 0 ≡ Done k q → k ≤ 256

@@ -3,8 +3,9 @@ use crate::text;
 use log_item::{
     Command, EntryIndexes, ItemRead, ItemWrote, KeyValue, LogItem, LogItemContent, PartWrote,
 };
+use std::io;
 
-pub(crate) fn case(line: &[u8]) {
+pub(crate) fn case(rt: &impl Print, line: &[u8]) -> io::Result<()> {
     let mut buf = [0u8; 64];
     let n = line::bytes(line, 8, &mut buf);
     let lent = line::number(line, 4) as usize;
@@ -15,28 +16,28 @@ pub(crate) fn case(line: &[u8]) {
             next: _,
             total: _,
             used: _,
-        } => both(line, item, line::front(&buf, lent)),
-        ItemRead::Refused(_) => {}
+        } => both(rt, line, item, line::front(&buf, lent)),
+        ItemRead::Refused(_) => Ok(()),
     }
 }
 
-fn both(line: &[u8], item: LogItem, store: &[u8]) {
+fn both(rt: &impl Print, line: &[u8], item: LogItem, store: &[u8]) -> io::Result<()> {
     let content = item.content;
     let at = line::number(line, 2) as usize;
-    whole(line, item, store, at);
-    piece(line, content, store, at);
+    whole(rt, line, item, store, at)?;
+    piece(rt, line, content, store, at)
 }
 
-fn whole(line: &[u8], item: LogItem, store: &[u8], at: usize) {
+fn whole(rt: &impl Print, line: &[u8], item: LogItem, store: &[u8], at: usize) -> io::Result<()> {
     let mut out = [170u8; 32];
     let r = encode(line, item, store, &mut out, at);
-    text::head(line);
+    text::head(rt, line)?;
     match r {
-        ItemWrote::Next { next, total } => answer(0, next, total),
-        ItemWrote::Refused(number) => answer(number, 0, 0),
+        ItemWrote::Next { next, total } => answer(rt, 0, next, total)?,
+        ItemWrote::Refused(number) => answer(rt, number, 0, 0)?,
     }
-    text::bytes(&out);
-    text::end();
+    text::bytes(rt, &out)?;
+    text::end(rt)
 }
 
 // Writes the item with one length or two.
@@ -51,23 +52,29 @@ fn encode(line: &[u8], item: LogItem, store: &[u8], out: &mut [u8], at: usize) -
     LogItem::encode(item, store, &two, total, out, at)
 }
 
-fn answer(number: u32, next: usize, total: u32) {
-    text::number(number as u64);
-    text::number(next as u64);
-    text::number(total as u64);
+fn answer(rt: &impl Print, number: u32, next: usize, total: u32) -> io::Result<()> {
+    text::number(rt, number as u64)?;
+    text::number(rt, next as u64)?;
+    text::number(rt, total as u64)
 }
 
-fn piece(line: &[u8], content: LogItemContent, store: &[u8], at: usize) {
+fn piece(
+    rt: &impl Print,
+    line: &[u8],
+    content: LogItemContent,
+    store: &[u8],
+    at: usize,
+) -> io::Result<()> {
     let mut out = [170u8; 32];
     let r = content_alone(content, store, &mut out, at);
-    text::start(b"piece");
-    text::word(line::word(line, 1));
+    text::start(rt, b"piece")?;
+    text::word(rt, line::word(line, 1))?;
     match r {
-        PartWrote::Next(next) => answer(0, next, 0),
-        PartWrote::Refused(number) => answer(number, 0, 0),
+        PartWrote::Next(next) => answer(rt, 0, next, 0)?,
+        PartWrote::Refused(number) => answer(rt, number, 0, 0)?,
     }
-    text::bytes(&out);
-    text::end();
+    text::bytes(rt, &out)?;
+    text::end(rt)
 }
 
 // Entries up to their tails, a command or a key.

@@ -1,16 +1,17 @@
 // Bodies and whole batches: the table that one gives, or its refusal; what a body holds, without a table; and plain form.
 use crate::{tables, text};
 use log_batch::{BodyCheck, LogBatch, LogItemBatch, PlainForm};
+use std::io;
 
 // A body or a whole batch, read into a table.
-pub(crate) fn case(line: &[u8]) {
+pub(crate) fn case(rt: &impl Print, line: &[u8]) -> io::Result<()> {
     let mut buf = [0u8; 2048];
     let signature = line::short(line, 2);
     let len = line::bytes(line, 3, &mut buf);
     let letter = line::first_letter(line);
     let n = footed(letter, signature, &mut buf, len);
     let table = read(letter, line::front(&buf, n), signature);
-    tables::line(line::word(line, 0), line::word(line, 1), table);
+    tables::line(rt, line::word(line, 0), line::word(line, 1), table)
 }
 
 // The length with a footer where the letter is that of `items`, which gets one here; the other kinds have theirs.
@@ -32,15 +33,15 @@ pub(crate) fn read(letter: u8, bytes: &[u8], signature: u32) -> LogItemBatch {
 }
 
 // Items, and then the place after the last of them.
-pub(crate) fn go_over(line: &[u8]) {
+pub(crate) fn go_over(rt: &impl Print, line: &[u8]) -> io::Result<()> {
     let mut buf = [0u8; 64];
     let n = line::bytes(line, 2, &mut buf);
-    text::head(line);
-    counts(log_batch::check_items(line::front(&buf, n)));
-    text::end();
+    text::head(rt, line)?;
+    counts(rt, log_batch::check_items(line::front(&buf, n)))?;
+    text::end(rt)
 }
 
-fn counts(got: BodyCheck) {
+fn counts(rt: &impl Print, got: BodyCheck) -> io::Result<()> {
     match got {
         BodyCheck::Accepted {
             items,
@@ -48,28 +49,28 @@ fn counts(got: BodyCheck) {
             total,
             next,
         } => {
-            text::word(b"counts");
-            text::number(items as u64);
-            text::number(entries as u64);
-            text::number(total as u64);
-            text::number(next as u64);
+            text::word(rt, b"counts")?;
+            text::number(rt, items as u64)?;
+            text::number(rt, entries as u64)?;
+            text::number(rt, total as u64)?;
+            text::number(rt, next as u64)
         }
-        BodyCheck::Refused(why) => text::refusal(why),
+        BodyCheck::Refused(why) => text::refusal(rt, why),
     }
 }
 
-pub(crate) fn plain(line: &[u8]) {
+pub(crate) fn plain(rt: &impl Print, line: &[u8]) -> io::Result<()> {
     let mut buf = [0u8; 64];
     let n = line::bytes(line, 2, &mut buf);
-    text::head(line);
-    form(log_batch::plain(line::front(&buf, n), 0));
-    text::end();
+    text::head(rt, line)?;
+    form(rt, log_batch::plain(line::front(&buf, n), 0))?;
+    text::end(rt)
 }
 
-fn form(got: PlainForm) {
+fn form(rt: &impl Print, got: PlainForm) -> io::Result<()> {
     match got {
-        PlainForm::Yes => text::word(b"yes"),
-        PlainForm::No => text::word(b"no"),
-        PlainForm::Refused(why) => text::refusal(why),
+        PlainForm::Yes => text::word(rt, b"yes"),
+        PlainForm::No => text::word(rt, b"no"),
+        PlainForm::Refused(why) => text::refusal(rt, why),
     }
 }

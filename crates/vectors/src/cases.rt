@@ -34,47 +34,52 @@
 use crate::{
     alone, bodies, headers, listings, number, rewrites, statuses, steps, sums, views, writes,
 };
-use libc::STDIN_FILENO;
+use std::alloc::Global;
+use std::io::{self, Read};
 
-pub(crate) fn run() {
-    let mut space = io::large_buffer();
-    let n = io::read_full(STDIN_FILENO, &mut space);
-    lines(&space[..n]);
+// Longer input is taken as cut there.
+const MOST: u64 = 65_536;
+
+pub(crate) fn run(rt: &(impl Input + Print), alloc: Global) -> io::Result<()> {
+    let mut text = Vec::new(alloc);
+    rt.reader().take(MOST).read_to_end(&mut text)?;
+    lines(rt, text.as_slice())
 }
 
-fn lines(text: &[u8]) {
+fn lines(rt: &impl Print, text: &[u8]) -> io::Result<()> {
     let mut at = 0;
     while at < text.len() {
         let end = line::find(text, at, b'\n');
         if text.len() <= end {
-            return;
+            return Ok(());
         }
-        case(line::part(text, at, end));
+        case(rt, line::part(text, at, end))?;
         at = end + 1;
     }
+    Ok(())
 }
 
-fn case(line: &[u8]) {
+fn case(rt: &impl Print, line: &[u8]) -> io::Result<()> {
     match line::first_letter(line) {
-        b'a' => alone::case(line),
-        b'c' => sums::case(line),
-        b'n' => number::number(line),
-        b'r' => number::bytes(line),
-        b'b' => number::big(line),
-        b'u' => number::place(line),
-        b'l' => number::little(line),
-        b'h' => headers::case(line),
-        b'i' | b'f' | b'w' => bodies::case(line),
-        b'p' => bodies::plain(line),
-        b'g' => bodies::go_over(line),
-        b'v' => views::case(line),
-        b's' => statuses::case(line),
-        b'e' => writes::case(line),
-        b'd' => listings::case(line),
-        b'm' => rewrites::case(line),
-        b'o' => steps::case(line),
-        b'j' => steps::jump(line),
-        b't' => steps::tail(line),
-        _ => {}
+        b'a' => alone::case(rt, line),
+        b'c' => sums::case(rt, line),
+        b'n' => number::number(rt, line),
+        b'r' => number::bytes(rt, line),
+        b'b' => number::big(rt, line),
+        b'u' => number::place(rt, line),
+        b'l' => number::little(rt, line),
+        b'h' => headers::case(rt, line),
+        b'i' | b'f' | b'w' => bodies::case(rt, line),
+        b'p' => bodies::plain(rt, line),
+        b'g' => bodies::go_over(rt, line),
+        b'v' => views::case(rt, line),
+        b's' => statuses::case(rt, line),
+        b'e' => writes::case(rt, line),
+        b'd' => listings::case(rt, line),
+        b'm' => rewrites::case(rt, line),
+        b'o' => steps::case(rt, line),
+        b'j' => steps::jump(rt, line),
+        b't' => steps::tail(rt, line),
+        _ => Ok(()),
     }
 }

@@ -2,6 +2,7 @@
 // or R, the rest is in hex, and what is left out at the end is 0. Rows are joined by semicolons, and `-` is none.
 use crate::text;
 use pipe_log::{Location, LogQueue};
+use std::io;
 
 // At most 64 rows, and how many there are.
 #[derive(Clone, Copy)]
@@ -67,31 +68,32 @@ fn numbers(word: &[u8]) -> [u64; 6] {
 }
 
 // The words of the first len rows.
-pub(crate) fn show(rows: [Location; 64], len: usize) {
+pub(crate) fn show(rt: &impl Print, rows: [Location; 64], len: usize) -> io::Result<()> {
     let mut i = 0;
     while i < 64 {
         if len <= i {
-            return;
+            return Ok(());
         }
-        words(rows[i]);
+        words(rt, rows[i])?;
         i += 1;
     }
+    Ok(())
 }
 
-fn words(row: Location) {
+fn words(rt: &impl Print, row: Location) -> io::Result<()> {
     let queue = row.queue;
-    text::word(b":");
-    letter(queue);
-    text::number(row.seq);
-    text::number(row.offset);
-    text::number(row.len);
-    text::number(row.entry_offset as u64);
-    text::number(row.entry_len as u64);
+    text::word(rt, b":")?;
+    letter(rt, queue)?;
+    text::number(rt, row.seq)?;
+    text::number(rt, row.offset)?;
+    text::number(rt, row.len)?;
+    text::number(rt, row.entry_offset as u64)?;
+    text::number(rt, row.entry_len as u64)
 }
 
-fn letter(queue: LogQueue) {
+fn letter(rt: &impl Print, queue: LogQueue) -> io::Result<()> {
     match queue {
-        LogQueue::Append => text::word(b"A"),
-        LogQueue::Rewrite => text::word(b"R"),
+        LogQueue::Append => text::word(rt, b"A"),
+        LogQueue::Rewrite => text::word(rt, b"R"),
     }
 }

@@ -1,5 +1,7 @@
 // Runs the cases of standard input and prints a line or more for each. crates/vectors/stdin has the cases, and stdout what the published
 // vectors, the real crate and document 01 give.
+#![tactic(auto)]
+
 mod alone;
 mod bodies;
 mod cases;
@@ -17,6 +19,8 @@ mod text;
 mod views;
 mod writes;
 
-fn main() {
-    cases::run();
+use std::io;
+
+fn main(rt: HostRuntime) -> io::Result<()> {
+    cases::run(&rt, rt.alloc())
 }

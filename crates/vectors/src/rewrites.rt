@@ -3,6 +3,7 @@
 use crate::{locations, text};
 use location_rules::{Gate, Table};
 use pipe_log::Location;
+use std::io;
 
 // A table and its rows.
 #[derive(Clone, Copy)]
@@ -13,7 +14,7 @@ struct Memtable {
 }
 
 // The calls that a line names, one after another.
-pub(crate) fn case(line: &[u8]) {
+pub(crate) fn case(rt: &impl Print, line: &[u8]) -> io::Result<()> {
     let words = line::words_from(line, 2);
     let mut table = table(words);
     let mut k = 3;
@@ -21,16 +22,17 @@ pub(crate) fn case(line: &[u8]) {
         let call = line::words_from(words, k);
         match line::first_letter(call) {
             b'r' => {
-                table = rewrite(line, call, table);
+                table = rewrite(rt, line, call, table)?;
                 k += 4;
             }
             b'f' => {
-                fetch(line, call, table);
+                fetch(rt, line, call, table)?;
                 k += 2;
             }
-            _ => return,
+            _ => return Ok(()),
         }
     }
+    Ok(())
 }
 
 fn table(words: &[u8]) -> Memtable {
@@ -47,13 +49,13 @@ fn table(words: &[u8]) -> Memtable {
 }
 
 // Begins the line of a call's answer.
-fn start(line: &[u8], call: &[u8]) {
-    text::start(line::word(call, 0));
-    text::word(line::word(line, 1));
+fn start(rt: &impl Print, line: &[u8], call: &[u8]) -> io::Result<()> {
+    text::start(rt, line::word(call, 0))?;
+    text::word(rt, line::word(line, 1))
 }
 
 // The table after a rewrite.
-fn rewrite(line: &[u8], call: &[u8], from: Memtable) -> Memtable {
+fn rewrite(rt: &impl Print, line: &[u8], call: &[u8], from: Memtable) -> io::Result<Memtable> {
     let incoming = locations::rows(line::word(call, 3));
     let first = line::number(call, 2);
     let gate = gate(line::word(call, 1));
@@ -64,20 +66,20 @@ fn rewrite(line: &[u8], call: &[u8], from: Memtable) -> Memtable {
     let left = location_table::rewrite(rows, len, table, coming, incoming.len, first, gate);
     let r = left.answer;
     let after = left.rows;
-    start(line, call);
-    text::number(r.number as u64);
-    text::number(r.replaced as u64);
-    text::number(r.count as u64);
-    locations::show(after, len);
-    text::end();
-    Memtable {
+    start(rt, line, call)?;
+    text::number(rt, r.number as u64)?;
+    text::number(rt, r.replaced as u64)?;
+    text::number(rt, r.count as u64)?;
+    locations::show(rt, after, len)?;
+    text::end(rt)?;
+    Ok(Memtable {
         rows: after,
         len,
         table: Table {
             first: table.first,
             count: r.count,
         },
-    }
+    })
 }
 
 fn gate(word: &[u8]) -> Gate {
@@ -88,7 +90,7 @@ fn gate(word: &[u8]) -> Gate {
     }
 }
 
-fn fetch(line: &[u8], call: &[u8], from: Memtable) {
+fn fetch(rt: &impl Print, line: &[u8], call: &[u8], from: Memtable) -> io::Result<()> {
     let table = from.table;
     let rows = from.rows;
     let r = location_table::fetch_entry_indexes_before(
@@ -97,9 +99,9 @@ fn fetch(line: &[u8], call: &[u8], from: Memtable) {
         table,
         line::number(call, 1),
     );
-    start(line, call);
-    text::number(r.number as u64);
-    text::number(r.place as u64);
-    text::number(r.len as u64);
-    text::end();
+    start(rt, line, call)?;
+    text::number(rt, r.number as u64)?;
+    text::number(rt, r.place as u64)?;
+    text::number(rt, r.len as u64)?;
+    text::end(rt)
 }

@@ -3,14 +3,15 @@ use crate::text;
 use log_batch::{AtomicGroupStatus, StatusRead};
 use log_item::{ItemRead, LogItem};
 use refusal::Refusal;
+use std::io;
 
-pub(crate) fn case(line: &[u8]) {
+pub(crate) fn case(rt: &impl Print, line: &[u8]) -> io::Result<()> {
     let mut buf = [0u8; 16];
     let n = line::bytes(line, 3, &mut buf);
     let lent = line::short(line, 2) as usize;
-    text::head(line);
-    answer(mark(line::front(&buf, n), lent));
-    text::end();
+    text::head(rt, line)?;
+    answer(rt, mark(line::front(&buf, n), lent))?;
+    text::end(rt)
 }
 
 // What the item marks, with its first bytes lent.
@@ -27,21 +28,21 @@ fn mark(bytes: &[u8], lent: usize) -> StatusRead {
     }
 }
 
-fn answer(got: StatusRead) {
+fn answer(rt: &impl Print, got: StatusRead) -> io::Result<()> {
     match got {
         StatusRead::Mark { id, status } => {
-            text::number(id);
-            status_word(status);
+            text::number(rt, id)?;
+            status_word(rt, status)
         }
-        StatusRead::NoMark => text::word(b"no-mark"),
-        StatusRead::Refused(why) => text::refusal(why),
+        StatusRead::NoMark => text::word(rt, b"no-mark"),
+        StatusRead::Refused(why) => text::refusal(rt, why),
     }
 }
 
-fn status_word(status: AtomicGroupStatus) {
+fn status_word(rt: &impl Print, status: AtomicGroupStatus) -> io::Result<()> {
     match status {
-        AtomicGroupStatus::Begin => text::word(b"begin"),
-        AtomicGroupStatus::Middle => text::word(b"middle"),
-        AtomicGroupStatus::End => text::word(b"end"),
+        AtomicGroupStatus::Begin => text::word(rt, b"begin"),
+        AtomicGroupStatus::Middle => text::word(rt, b"middle"),
+        AtomicGroupStatus::End => text::word(rt, b"end"),
     }
 }

@@ -3,85 +3,87 @@
 use crate::{tables, text};
 use item_reader::{Cursor, EntryRows, Next, RowRead};
 use refusal::Refusal;
+use std::io;
 
 // By steps of a cursor, and then what a reader answers a third of the way.
-pub(crate) fn case(line: &[u8]) {
+pub(crate) fn case(rt: &impl Print, line: &[u8]) -> io::Result<()> {
     let mut buf = [0u8; 2048];
     let n = line::bytes(line, 4, &mut buf);
     let signature = line::short(line, 2);
     let count = line::number(line, 3) as usize;
-    text::head(line);
+    text::head(rt, line)?;
     let first = Cursor::start(line::front(&buf, n), signature);
-    steps(line::front(&buf, n), first, count);
-    text::end();
-    text::start(b"nth");
-    text::word(line::word(line, 1));
+    steps(rt, line::front(&buf, n), first, count)?;
+    text::end(rt)?;
+    text::start(rt, b"nth")?;
+    text::word(rt, line::word(line, 1))?;
     let body = line::front(&buf, n);
-    answer(body, item_reader::nth(body, signature, count / 3));
-    text::end();
+    answer(rt, body, item_reader::nth(body, signature, count / 3))?;
+    text::end(rt)
 }
 
 // What so many steps answer, and the cursor after them.
-fn steps(body: &[u8], first: Cursor, count: usize) -> Cursor {
+fn steps(rt: &impl Print, body: &[u8], first: Cursor, count: usize) -> io::Result<Cursor> {
     let mut cursor = first;
     let mut k = 0;
     while k < count {
         let s = cursor.step(body);
         let got = s.answer;
-        answer(body, got);
+        answer(rt, body, got)?;
         cursor = s.cursor;
         k += 1;
     }
-    cursor
+    Ok(cursor)
 }
 
-fn answer(body: &[u8], got: Next) {
+fn answer(rt: &impl Print, body: &[u8], got: Next) -> io::Result<()> {
     match got {
         Next::Item { item, rows } => {
-            tables::item(item);
+            tables::item(rt, item)?;
             let entries = item.entries();
-            entry_rows(body, rows, entries.count);
+            entry_rows(rt, body, rows, entries.count)
         }
-        Next::End => text::word(b"end"),
+        Next::End => text::word(rt, b"end"),
         Next::Refused(why) => {
-            text::word(b"refused");
-            text::refusal(why);
+            text::word(rt, b"refused")?;
+            text::refusal(rt, why)
         }
     }
 }
 
 // The rows of an item, and the end after them.
-fn entry_rows(body: &[u8], rows: EntryRows, count: usize) {
+fn entry_rows(rt: &impl Print, body: &[u8], rows: EntryRows, count: usize) -> io::Result<()> {
     let mut rest = rows;
     let mut i = 0;
     while i < count {
-        rest = entry(body, rest);
+        rest = entry(rt, body, rest)?;
         i += 1;
     }
-    entry(body, rest);
+    entry(rt, body, rest)?;
+    Ok(())
 }
 
 // The next row, and the rows after it.
-fn entry(body: &[u8], rows: EntryRows) -> EntryRows {
+fn entry(rt: &impl Print, body: &[u8], rows: EntryRows) -> io::Result<EntryRows> {
     match item_reader::next_row(body, rows) {
         RowRead::Row { row, rest } => {
-            tables::entry(row);
-            rest
+            tables::entry(rt, row)?;
+            Ok(rest)
         }
         RowRead::End => {
-            text::word(b".");
-            rows
+            text::word(rt, b".")?;
+            Ok(rows)
         }
         RowRead::Refused(number) => {
-            text::word(b"refused");
-            text::number(number as u64);
-            rows
+            text::word(rt, b"refused")?;
+            text::number(rt, number as u64)?;
+            Ok(rows)
         }
     }
 }
 
 // A cursor made of its numbers, stepped so many times; and where it then stands.
-pub(crate) fn jump(line: &[u8]) {
+pub(crate) fn jump(rt: &impl Print, line: &[u8]) -> io::Result<()> {
     let mut buf = [0u8; 64];
     let n = line::bytes(line, 8, &mut buf);
     let from = Cursor {
@@ -95,28 +97,33 @@ pub(crate) fn jump(line: &[u8]) {
             item: 0,
         },
     };
-    text::head(line);
-    let after = steps(line::front(&buf, n), from, line::number(line, 7) as usize);
-    place(after);
-    text::end();
+    text::head(rt, line)?;
+    let after = steps(
+        rt,
+        line::front(&buf, n),
+        from,
+        line::number(line, 7) as usize,
+    )?;
+    place(rt, after)?;
+    text::end(rt)
 }
 
-fn place(cursor: Cursor) {
-    text::number(cursor.at as u64);
-    text::number(cursor.total as u64);
-    text::number(cursor.used as u64);
-    text::number(cursor.item as u64);
+fn place(rt: &impl Print, cursor: Cursor) -> io::Result<()> {
+    text::number(rt, cursor.at as u64)?;
+    text::number(rt, cursor.total as u64)?;
+    text::number(rt, cursor.used as u64)?;
+    text::number(rt, cursor.item as u64)
 }
 
 // The first item of a body, and its rows read in another.
-pub(crate) fn tail(line: &[u8]) {
+pub(crate) fn tail(rt: &impl Print, line: &[u8]) -> io::Result<()> {
     let mut buf = [0u8; 64];
     let mut other = [0u8; 64];
     let n = line::bytes(line, 2, &mut buf);
     let m = line::bytes(line, 3, &mut other);
-    text::head(line);
-    answer(line::front(&other, m), first_of(line::front(&buf, n)));
-    text::end();
+    text::head(rt, line)?;
+    answer(rt, line::front(&other, m), first_of(line::front(&buf, n)))?;
+    text::end(rt)
 }
 
 fn first_of(body: &[u8]) -> Next {

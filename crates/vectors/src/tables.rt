@@ -3,28 +3,34 @@
 use crate::text;
 use log_batch::LogItemBatch;
 use log_item::{Command, EntryIndex, EntryIndexes, KeyValue, LogItem, LogItemContent, Op, Span};
+use std::io;
 
-pub(crate) fn line(start: &[u8], name: &[u8], table: LogItemBatch) {
+pub(crate) fn line(
+    rt: &impl Print,
+    start: &[u8],
+    name: &[u8],
+    table: LogItemBatch,
+) -> io::Result<()> {
     let why = table.refusal;
     if why.number == refusal::NONE {
-        text::start(start);
-        text::word(name);
-        counts(table);
-        rows(table);
+        text::start(rt, start)?;
+        text::word(rt, name)?;
+        counts(rt, table)?;
+        rows(rt, table)?;
     } else {
-        text::start(b"refused");
-        text::word(name);
-        text::refusal(why);
-        counts(table);
+        text::start(rt, b"refused")?;
+        text::word(rt, name)?;
+        text::refusal(rt, why)?;
+        counts(rt, table)?;
     }
-    text::end();
+    text::end(rt)
 }
 
-fn rows(table: LogItemBatch) {
+fn rows(rt: &impl Print, table: LogItemBatch) -> io::Result<()> {
     let item_rows = table.items;
     let entry_rows = table.entries;
-    items(item_rows, table.item_count);
-    entries(entry_rows, table.entry_count);
+    items(rt, item_rows, table.item_count)?;
+    entries(rt, entry_rows, table.entry_count)
 }
 
 // All rows where they are few, else the last alone.
@@ -32,87 +38,89 @@ fn first_shown(count: usize) -> usize {
     if count <= 8 { 0 } else { count - 1 }
 }
 
-fn counts(table: LogItemBatch) {
-    text::number(table.item_count as u64);
-    text::number(table.entry_count as u64);
-    text::number(table.total as u64);
-    text::number(table.next as u64);
-    span(table.body);
-    span(table.block);
+fn counts(rt: &impl Print, table: LogItemBatch) -> io::Result<()> {
+    text::number(rt, table.item_count as u64)?;
+    text::number(rt, table.entry_count as u64)?;
+    text::number(rt, table.total as u64)?;
+    text::number(rt, table.next as u64)?;
+    span(rt, table.body)?;
+    span(rt, table.block)
 }
 
-fn span(span: Span) {
-    text::number(span.at as u64);
-    text::number(span.len as u64);
+fn span(rt: &impl Print, span: Span) -> io::Result<()> {
+    text::number(rt, span.at as u64)?;
+    text::number(rt, span.len as u64)
 }
 
-fn items(rows: [LogItem; 256], count: usize) {
+fn items(rt: &impl Print, rows: [LogItem; 256], count: usize) -> io::Result<()> {
     let mut i = first_shown(count);
     while i < 256 {
         if count <= i {
-            return;
+            return Ok(());
         }
-        item(rows[i]);
+        item(rt, rows[i])?;
         i += 1;
     }
+    Ok(())
 }
 
-fn entries(rows: [EntryIndex; 1024], count: usize) {
+fn entries(rt: &impl Print, rows: [EntryIndex; 1024], count: usize) -> io::Result<()> {
     let mut i = first_shown(count);
     while i < 1024 {
         if count <= i {
-            return;
+            return Ok(());
         }
-        entry(rows[i]);
+        entry(rt, rows[i])?;
         i += 1;
     }
+    Ok(())
 }
 
-pub(crate) fn entry(row: EntryIndex) {
-    text::word(b":");
-    text::number(row.index);
-    text::number(row.entry_offset as u64);
-    text::number(row.entry_len as u64);
+pub(crate) fn entry(rt: &impl Print, row: EntryIndex) -> io::Result<()> {
+    text::word(rt, b":")?;
+    text::number(rt, row.index)?;
+    text::number(rt, row.entry_offset as u64)?;
+    text::number(rt, row.entry_len as u64)
 }
 
-pub(crate) fn item(item: LogItem) {
-    text::word(b"|");
-    text::number(item.raft_group_id);
+pub(crate) fn item(rt: &impl Print, item: LogItem) -> io::Result<()> {
+    text::word(rt, b"|")?;
+    text::number(rt, item.raft_group_id)?;
     let content = item.content;
     match content {
-        LogItemContent::EntryIndexes(entries) => entries_words(entries),
-        LogItemContent::Command(command) => command_words(command),
-        LogItemContent::Kv(key_value) => key_words(key_value),
+        LogItemContent::EntryIndexes(entries) => entries_words(rt, entries),
+        LogItemContent::Command(command) => command_words(rt, command),
+        LogItemContent::Kv(key_value) => key_words(rt, key_value),
     }
 }
 
-fn entries_words(entries: EntryIndexes) {
-    text::word(b"entries");
-    text::number(entries.count as u64);
-    text::number(entries.first_index);
+fn entries_words(rt: &impl Print, entries: EntryIndexes) -> io::Result<()> {
+    text::word(rt, b"entries")?;
+    text::number(rt, entries.count as u64)?;
+    text::number(rt, entries.first_index)
 }
 
-fn command_words(command: Command) {
+fn command_words(rt: &impl Print, command: Command) -> io::Result<()> {
     match command {
-        Command::Clean => text::word(b"clean"),
+        Command::Clean => text::word(rt, b"clean"),
         Command::Compact { index } => {
-            text::word(b"compact");
-            text::number(index);
+            text::word(rt, b"compact")?;
+            text::number(rt, index)
         }
     }
 }
 
-fn key_words(key_value: KeyValue) {
+fn key_words(rt: &impl Print, key_value: KeyValue) -> io::Result<()> {
     let op = key_value.op;
     match op {
         Op::Put { value } => {
-            text::word(b"put");
-            span(key_value.key);
-            span(value);
+            text::word(rt, b"put")?;
+            span(rt, key_value.key)?;
+            span(rt, value)
         }
         Op::Del => {
-            text::word(b"del");
-            span(key_value.key);
+            text::word(rt, b"del")?;
+            span(rt, key_value.key)
         }
     }
 }

@@ -1,15 +1,21 @@
 // The bytes of an entry, as a part of the block that its row's queue names: the refusal's number or 0, the part's length, and the part.
 use crate::text;
 use pipe_log::{Location, LogQueue};
+use std::io;
 
-pub(crate) fn case(line: &[u8]) {
+pub(crate) fn case(rt: &impl Print, line: &[u8]) -> io::Result<()> {
     let mut append = [0u8; 32];
     let mut rewrite = [0u8; 32];
     let m = line::bytes(line, 6, &mut append);
     let n = line::bytes(line, 7, &mut rewrite);
-    text::head(line);
-    view(row(line), line::front(&append, m), line::front(&rewrite, n));
-    text::end();
+    text::head(rt, line)?;
+    view(
+        rt,
+        row(line),
+        line::front(&append, m),
+        line::front(&rewrite, n),
+    )?;
+    text::end(rt)
 }
 
 fn row(line: &[u8]) -> Location {
@@ -28,12 +34,13 @@ fn row(line: &[u8]) -> Location {
     }
 }
 
-fn view<'a>(row: Location, append: &'a [u8], rewrite: &'a [u8]) {
+fn view<'a>(rt: &impl Print, row: Location, append: &'a [u8], rewrite: &'a [u8]) -> io::Result<()> {
     let mut number: u32 = 255;
     let bytes = log_batch::entry_view(row, append, rewrite, &mut number);
-    text::number(number as u64);
-    text::number(bytes.len() as u64);
+    text::number(rt, number as u64)?;
+    text::number(rt, bytes.len() as u64)?;
     if 0 < bytes.len() {
-        text::hex(bytes);
+        text::hex(rt, bytes)?;
     }
+    Ok(())
 }

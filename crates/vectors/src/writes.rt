@@ -3,8 +3,9 @@
 use crate::{bodies, edits, tables, text};
 use list_writer::Encoded;
 use log_batch::{LogBatch, LogItemBatch};
+use std::io;
 
-pub(crate) fn case(line: &[u8]) {
+pub(crate) fn case(rt: &impl Print, line: &[u8]) -> io::Result<()> {
     let mut body = [0u8; 2048];
     let mut content = [0u8; 64];
     let mut out = [170u8; 2048];
@@ -19,8 +20,8 @@ pub(crate) fn case(line: &[u8]) {
         &mut out,
         room,
     );
-    answer(line, r, line::front(&out, room));
-    back(line, words, line::front(&out, r.length));
+    answer(rt, line, r, line::front(&out, room))?;
+    back(rt, line, words, line::front(&out, r.length))
 }
 
 // Writes the table of a body, edited, into the first `room` bytes of out, or into all where there are fewer.
@@ -55,25 +56,25 @@ fn encode(
 }
 
 // Number, item and length, the bytes written, and the rest of the buffer.
-fn answer(line: &[u8], r: Encoded, out: &[u8]) {
-    text::head(line);
-    text::number(r.number as u64);
-    text::number(r.item as u64);
-    text::number(r.length as u64);
-    text::bytes(line::front(out, r.length));
-    text::bytes(line::part(out, r.length, out.len()));
-    text::end();
+fn answer(rt: &impl Print, line: &[u8], r: Encoded, out: &[u8]) -> io::Result<()> {
+    text::head(rt, line)?;
+    text::number(rt, r.number as u64)?;
+    text::number(rt, r.item as u64)?;
+    text::number(rt, r.length as u64)?;
+    text::bytes(rt, line::front(out, r.length))?;
+    text::bytes(rt, line::part(out, r.length, out.len()))?;
+    text::end(rt)
 }
 
 // What was written, where anything was, read under the second signature.
-fn back(line: &[u8], words: &[u8], bytes: &[u8]) {
+fn back(rt: &impl Print, line: &[u8], words: &[u8], bytes: &[u8]) -> io::Result<()> {
     if bytes.len() == 0 {
-        return;
+        return Ok(());
     }
     let table = bodies::read(
         line::first_letter(line::word(words, 0)),
         bytes,
         line::short(words, 3),
     );
-    tables::line(b"back", line::word(line, 1), table);
+    tables::line(rt, b"back", line::word(line, 1), table)
 }

@@ -1,0 +1,16 @@
+-- `log_batch::LogItemBatch::decode` meets its contract: the seal, then what stands before the footer.
+-- Assumes nothing.
+use Rattle.std.proofs.Common.{sym, ap, ◌∙◌, arith}
+use Rattle.log_batch.specs.Table.{table_of}
+use Rattle.log_batch.proofs.Sealing.{seal_long, body_refused, body_sealed}
+use Rattle.log_batch.proofs.Tables.{refused_table}
+use Rattle.log_batch.proofs.LogItemBatch.decode.Goals as goal
+
+pub returns-then-broken-ne-NONE : goal.returns-then-broken-ne-NONE
+returns-then-broken-ne-NONE c = refused_table _ _ c.empty.ensures (body_refused _ _ c.check_seal-broken.ensures c.if-broken-ne-NONE.true)
+
+pub overflow_sub-n : goal.overflow_sub-n
+overflow_sub-n c = let a = c.args in omega (arith, seal_long a.body.now a.signature (sym c.check_seal-broken.ensures ∙ c.if-broken-ne-NONE.false))
+
+pub returns : goal.returns
+returns c = c.fill.ensures ∙ ap (table_of _ _) (sym (body_sealed _ _ c.check_seal-broken.ensures c.if-broken-ne-NONE.false))
