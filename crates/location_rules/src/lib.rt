@@ -76,6 +76,7 @@ fn fits(first: u64, n: usize) -> bool
 }
 
 // Whether a table of n rows is well formed, by where a row of the wrong queue stands: the first before the count, and the first at the count or after it.
+#[tactic(auto, using(crate::proofs::Forming::beyond, crate::proofs::Forming::front_wrong, crate::proofs::Forming::back_wrong, crate::proofs::Forming::formed))]
 pub fn is_formed(table: Table, n: usize, front: usize, back: usize) -> bool
     ensures { result ≡ well_formed_by table n front back }
 {
@@ -165,6 +166,7 @@ fn overlap_at(start: usize, from: usize, len: usize) -> Overlap
 
 // The answer: the first check that fails, else how many rows are replaced, and the count. The run of rows before the first stop goes
 // from the overlap's start to `end`, and is empty where that is before the start.
+#[tactic(auto, using(crate::proofs::Deciding::broken, crate::proofs::Deciding::not_ready))]
 pub fn decide(
     good: bool,
     ready: bool,

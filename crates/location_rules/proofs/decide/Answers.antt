@@ -1,26 +1,19 @@
 -- `location_rules::decide` meets its contract: a law for each way out.
 -- Assumes nothing.
-use borrow.Author.Tests.{not-true, not-false}
-use Rattle.location_rules.proofs.Deciding.{broken, not_ready, apart, starts_late, starts_early, gated, ungated}
+use Rattle.location_rules.proofs.Deciding.{apart, starts_late, starts_early, gated, ungated}
 use Rattle.location_rules.proofs.decide.Goals as goal
 
-pub returns-then-not-good : goal.returns-then-not-good
-returns-then-not-good c = broken _ _ _ _ _ _ _ _ (not-true _ c.if-not-good.true-raw) c.unchanged.ensures
-
-pub returns-then-not-ready : goal.returns-then-not-ready
-returns-then-not-ready c = not_ready _ _ _ _ _ _ _ _ (not-false _ c.if-not-good.false-raw) (not-true _ c.if-not-ready.true-raw) c.unchanged-then-not-ready.ensures
-
 pub returns-then-limit-start : goal.returns-then-limit-start
-returns-then-limit-start c = apart _ _ _ _ _ _ _ _ (not-false _ c.if-not-good.false-raw) (not-false _ c.if-not-ready.false-raw) c.if-limit-start.true c.unchanged-then-limit-start.ensures
+returns-then-limit-start c = apart _ _ _ _ _ _ _ _ c.if-not-good.false c.if-not-ready.false c.if-limit-start.true c.unchanged-then-limit-start.ensures
 
 pub returns-then-count-start : goal.returns-then-count-start
-returns-then-count-start c = starts_late _ _ _ _ _ _ _ _ (not-false _ c.if-not-good.false-raw) (not-false _ c.if-not-ready.false-raw) c.if-limit-start.false c.if-count-start.true c.unchanged-then-count-start.ensures
+returns-then-count-start c = starts_late _ _ _ _ _ _ _ _ c.if-not-good.false c.if-not-ready.false c.if-limit-start.false c.if-count-start.true c.unchanged-then-count-start.ensures
 
 pub returns-then-start-count : goal.returns-then-start-count
-returns-then-start-count c = starts_early _ _ _ _ _ _ _ _ (not-false _ c.if-not-good.false-raw) (not-false _ c.if-not-ready.false-raw) c.if-limit-start.false c.if-count-start.false c.in-Given.is c.if-start-count.true c.unchanged-then-start-count.ensures
+returns-then-start-count c = starts_early _ _ _ _ _ _ _ _ c.if-not-good.false c.if-not-ready.false c.if-limit-start.false c.if-count-start.false c.in-Given.is c.if-start-count.true c.unchanged-then-start-count.ensures
 
 pub returns-in-None : goal.returns-in-None
-returns-in-None c = ungated _ _ _ _ _ _ _ _ (not-false _ c.if-not-good.false-raw) (not-false _ c.if-not-ready.false-raw) c.if-limit-start.false c.if-count-start.false c.in-None.is c.larger-reached.ensures c.larger.ensures c.moved.ensures
+returns-in-None c = ungated _ _ _ _ _ _ _ _ c.if-not-good.false c.if-not-ready.false c.if-limit-start.false c.if-count-start.false c.in-None.is c.larger-reached.ensures c.larger.ensures c.moved.ensures
 
 pub returns-else-start-count : goal.returns-else-start-count
-returns-else-start-count c = gated _ _ _ _ _ _ _ _ (not-false _ c.if-not-good.false-raw) (not-false _ c.if-not-ready.false-raw) c.if-limit-start.false c.if-count-start.false c.in-Given.is c.if-start-count.false c.larger-reached.ensures c.moved-in-Given.ensures
+returns-else-start-count c = gated _ _ _ _ _ _ _ _ c.if-not-good.false c.if-not-ready.false c.if-limit-start.false c.if-count-start.false c.in-Given.is c.if-start-count.false c.larger-reached.ensures c.moved-in-Given.ensures
