@@ -1,3 +1,6 @@
+pub mod Walking
+pub mod RawIn
+pub mod Lent
 pub mod RowLaws
 pub mod ItemLaws
 pub mod OpenLaws
