@@ -1,1 +1,3 @@
+#![tactic(auto)]
+
 // What proofs by hand share, in proofs/. There is no code here.

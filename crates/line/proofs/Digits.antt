@@ -9,7 +9,7 @@ use native.Mathlib.Nat.{zero-add, pow-suc}
 use native.Mathlib.Numerals.{add-one}
 use lib.Dec.{leb}
 use lib.ListN.{length, get_or, take, drop, set, length-append, length-set}
-use lib.Seq.{take-suc, take_all, paste-suc}
+use lib.Seq.{take-suc, paste-suc}
 use borrow.Author.Tests.{leb-true, le-leb, lt-leb}
 use Rattle.line.specs.Hex.{digit_of, hex_number, hex_bytes}
 

@@ -1,6 +1,6 @@
 -- What telling the status of an item comes to: a law for each way out of the code.
 -- Assumes nothing.
-use Rattle.std.proofs.Common.{◌≡◌, ℕ, zero, suc, Bool, true, false, eqb, List, get_or, sym, refl, ◌∙◌, eq-eqb, ne_eqb}
+use Rattle.std.proofs.Common.{◌≡◌, ℕ, zero, suc, Bool, true, false, List, get_or, sym, refl, ◌∙◌, eq-eqb, ne_eqb}
 use Rattle.log_item.specs.Prefix.{begins, bytes_of, inside}
 use Rattle.log_item.specs.declared.Span.{Span}
 use Rattle.log_item.specs.declared.Op.TheVariants.{Put, Del}

@@ -1,6 +1,6 @@
 -- What testing a seal and a block comes to: a law for each way out of the code. What a right seal is, and what a seal says of its body's reading.
 -- Assumes nothing.
-use Rattle.std.proofs.Common.{◌≡◌, ℕ, ◌+◌, ◌-◌, ◌<◌, ◌≤◌, eqb, ltb, List, ◌++◌, length, drop, sym, ap, ◌∙◌, arith, length-append, length-drop, take_all, take_at, drop_at, ltb-true, le-ltb, lt-ltb, eq-eqb, ne_eqb, eqb-true, le-leb}
+use Rattle.std.proofs.Common.{◌≡◌, ℕ, ◌+◌, ◌<◌, ◌≤◌, eqb, ltb, List, ◌++◌, length, drop, sym, ap, ◌∙◌, arith, length-append, length-drop, take_all, take_at, drop_at, ltb-true, le-ltb, lt-ltb, eq-eqb, ne_eqb, eqb-true, le-leb}
 use lib.Bits.{bit_xor}
 use Rattle.refusal.proofs.First.{taken, other_answer}
 use Rattle.words.specs.Word.{little_endian, read_u32}

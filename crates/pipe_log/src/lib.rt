@@ -1,4 +1,5 @@
 // Where an entry lies in the log files: its queue, file and block, and its place in the block's content.
+#![tactic(auto)]
 
 // The two queues of log files.
 #[derive(Clone, Copy)]

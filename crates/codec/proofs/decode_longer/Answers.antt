@@ -1,6 +1,6 @@
 -- `codec::decode_longer` meets its contract: three to five bytes by themselves, the rest by the loop.
 -- Assumes nothing.
-use Prim.Native.Nat.{◌+◌, ◌-◌}
+use Prim.Native.Nat.{◌+◌}
 use native.Mathlib.Omega.{arith}
 use Rattle.codec.proofs.Reading.{so_far_more, so_far_last}
 use Rattle.codec.proofs.decode_longer.Goals as goal

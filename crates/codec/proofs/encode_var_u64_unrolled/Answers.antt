@@ -1,6 +1,5 @@
 -- `codec::encode_var_u64_unrolled` meets its contract. The loop's invariant: there is room for ten bytes, and, by `Writes`, what is left of the number still has to be stored.
 -- Assumes nothing.
-use Prim.Native.Nat.{◌-◌}
 use native.Mathlib.Omega.{arith}
 use Rattle.codec.specs.Shortest.{shortest}
 use Rattle.words.proofs.Writing.{room_for}

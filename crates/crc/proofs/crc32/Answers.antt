@@ -1,6 +1,5 @@
 -- `crc::crc32` meets its contract. The loop's invariant: the bytes that are left lead to the register that all lead to. The measure is how many they are.
 -- Assumes nothing.
-use Prim.Native.Nat.{◌-◌}
 use borrow.Author.Rules.{rules}
 use Rattle.crc.proofs.Laws.{byte_next, bytes_done}
 use Rattle.crc.proofs.crc32.Goals as goal

@@ -2,7 +2,6 @@
 -- Assumes nothing.
 use native.Mathlib.Omega.{arith}
 use Rattle.crc.proofs.next.Goals.{then-r-eq1, else-r-eq1}
-use Prim.Native.Nat.{◌-◌}
 use borrow.Author.Rules.{rules}
 use Rattle.crc.proofs.Laws.{bit_one, bit_zero, bits_done}
 use Rattle.crc.proofs.next.Goals as goal
@@ -11,7 +10,7 @@ pub loop-i-preserved : goal.loop-i-preserved
 loop-i-preserved c = (
   omega arith,
   elim c.if-r-eq1.branch [
-    then-r-eq1 w ↦ bit_one 8 c.loop-i.i c.loop-i.r _ _ (omega arith) w.if-r-eq1.true w.r-is c.loop-i.invariant.1
+    | then-r-eq1 w ↦ bit_one 8 c.loop-i.i c.loop-i.r _ _ (omega arith) w.if-r-eq1.true w.r-is c.loop-i.invariant.1
     | else-r-eq1 w ↦ bit_zero 8 c.loop-i.i c.loop-i.r _ _ (omega arith) w.if-r-eq1.false w.r-is c.loop-i.invariant.1
   ],
 )

@@ -1,7 +1,6 @@
 -- `list_writer::encode` meets its contract. The loop's invariant, `Writing`: what is left, stored from here on, completes the items. The
 -- measure is the rows that the items left could use, and the tails left.
 -- Assumes nothing.
-use Prim.Native.Nat.{◌-◌}
 use mathlib.Core.Path.{ap}
 use native.Mathlib.Omega.{arith}
 use lib.ListN.{length}

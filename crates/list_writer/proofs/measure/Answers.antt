@@ -1,7 +1,7 @@
 -- `list_writer::measure` meets its contract. The loop's invariant, `Measuring`: the size so far and the verdict on what is left give those of
 -- the whole list. The measure is the rows that the items left could use, and the tails left.
 -- Assumes nothing.
-use Prim.Native.Nat.{ℕ, ◌-◌}
+use Prim.Native.Nat.{ℕ}
 use mathlib.Core.Path.{◌∙◌, sym, ap}
 use native.Mathlib.Omega.{arith}
 use lib.ListN.{length}

@@ -6,7 +6,7 @@ use Rattle.log_item.proofs.Known.{tail_known}
 use Rattle.log_item.proofs.Pieces.{learnt}
 use Rattle.log_item.specs.declared.Form.TheVariants.{Any}
 use Rattle.log_item.specs.Answers.{head_got, tail_got}
-use Rattle.std.proofs.Common.{◌-◌, arith}
+use Rattle.std.proofs.Common.{arith}
 use Rattle.rows_reader.proofs.fill.Goals as goal
 
 pub returns-in_default : goal.returns-in_default

@@ -7,7 +7,6 @@ use Rattle.rows_writer.proofs.RowItems.{item_row_never, row_item_lem, entry_leng
 use Rattle.log_item.specs.declared.EntryIndexes.{EntryIndexes}
 use native.Mathlib.Omega.{arith}
 use mathlib.Core.Path.{refl, sym, ap, ◌∙◌}
-use Prim.Native.Nat.{◌-◌}
 use lib.ListN.{length}
 use Rattle.rows_writer.proofs.encode_rows.Goals as goal
 

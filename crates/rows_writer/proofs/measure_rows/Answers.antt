@@ -6,7 +6,6 @@ use Rattle.rows_writer.proofs.RowItems.{items_few, row_there, row_item_lem, entr
 use Rattle.codec.specs.Shortest.{shortest}
 use native.Mathlib.Omega.{arith}
 use mathlib.Core.Path.{refl, sym, ap, ◌∙◌}
-use Prim.Native.Nat.{◌-◌}
 use lib.ListN.{length}
 use Rattle.rows_writer.proofs.measure_rows.Goals as goal
 

@@ -1,6 +1,5 @@
 -- `speed::speed_steps` meets its contract: each item that a step hands out is one of those that are left.
 -- Assumes nothing.
-use Prim.Native.Nat.{◌-◌}
 use native.Mathlib.Omega.{arith}
 use Rattle.speed.proofs.Counting.{at_start, item_more, few_counted, refusal_counted}
 use Rattle.speed.proofs.speed_steps.Goals as goal

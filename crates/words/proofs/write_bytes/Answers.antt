@@ -1,6 +1,5 @@
 -- `words::write_bytes` meets its contract. The loop's invariant, `Copies`: what is left of src still has to be stored.
 -- Assumes nothing.
-use Prim.Native.Nat.{◌-◌}
 use native.Mathlib.Omega.{arith}
 use Rattle.words.proofs.Writing.{copies_done, room_for}
 use Rattle.words.proofs.write_bytes.Goals as goal

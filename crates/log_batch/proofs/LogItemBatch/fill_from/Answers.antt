@@ -1,7 +1,7 @@
 -- `log_batch::LogItemBatch::fill_from` meets its contract. The loop's invariant: what is in the tables and what is still to come are the whole
 -- answer. The measure is the items left, each with room for all tails, and the tails left.
 -- Assumes nothing.
-use Rattle.std.proofs.Common.{◌-◌, refl, arith}
+use Rattle.std.proofs.Common.{refl, arith}
 use Rattle.log_item.specs.Answers.{head_got, tail_got}
 use Rattle.log_item.specs.declared.Form.TheVariants.{Any}
 use Rattle.log_item.proofs.Pieces.{learnt}

@@ -1,6 +1,5 @@
 -- `log_batch::body::check_from` meets its contract. The loop's invariant, `ItemsLeft`: what is still to be read comes to what the whole comes to.
 -- Assumes nothing.
-use Rattle.std.proofs.Common.{◌-◌}
 use Rattle.log_item.specs.Private.{passed_got}
 use Rattle.log_item.proofs.Pieces.{learnt}
 use Rattle.log_item.proofs.Passing.{passed_got_lem}

@@ -16,7 +16,7 @@ pub returns-then-value-gt256 : goal.returns-then-value-gt256
 returns-then-value-gt256 c =
     let e = learnt field_got c.read_number.ensures c.in-Done.is in
     items_many _ _ (sym (elim c.match-form.branch [
-      in-Plain+else-next-var_u64_len w ↦ number_plain _ _ e w.in-Plain.is w.var_u64_len.ensures (omega (arith, w.if-next-var_u64_len.false))
+      | in-Plain+else-next-var_u64_len w ↦ number_plain _ _ e w.in-Plain.is w.var_u64_len.ensures (omega (arith, w.if-next-var_u64_len.false))
       | in_default w ↦ number_taken _ _ e w.in_default.is
     ])) c.if-value-gt256.true
 
@@ -24,7 +24,7 @@ pub returns-else-value-gt256 : goal.returns-else-value-gt256
 returns-else-value-gt256 c =
     let e = learnt field_got c.read_number.ensures c.in-Done.is in
     count_good _ _ (sym (elim c.match-form.branch [
-      in-Plain+else-next-var_u64_len w ↦ number_plain _ _ e w.in-Plain.is w.var_u64_len.ensures (omega (arith, w.if-next-var_u64_len.false))
+      | in-Plain+else-next-var_u64_len w ↦ number_plain _ _ e w.in-Plain.is w.var_u64_len.ensures (omega (arith, w.if-next-var_u64_len.false))
       | in_default w ↦ number_taken _ _ e w.in_default.is
     ])) c.if-value-gt256.false
 

@@ -1,6 +1,5 @@
 -- `log_item::prefix::starts_with` meets its contract. The loop's invariant, `BytesLeft`: what is left to test after i bytes comes to what the whole test does.
 -- Assumes nothing.
-use Prim.Native.Nat.{◌-◌}
 use Rattle.log_item.proofs.Starts.{too_short, start_end, start_same, start_other}
 use native.Mathlib.Omega.{arith}
 use Rattle.log_item.proofs.prefix.starts_with.Goals as goal

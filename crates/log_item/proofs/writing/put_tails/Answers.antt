@@ -3,7 +3,6 @@
 use native.Mathlib.Omega.{arith}
 use Rattle.log_item.proofs.Stores.{stored_at}
 use Rattle.log_item.proofs.Tails.{putting_small, putting_room, putting_next, putting_end}
-use Prim.Native.Nat.{◌-◌}
 use Rattle.log_item.proofs.writing.put_tails.Goals as goal
 
 pub overflow_add-total : goal.overflow_add-total

@@ -2,7 +2,6 @@
 -- Assumes nothing.
 use native.Mathlib.Omega.{arith}
 use Rattle.log_item.proofs.Tails.{sizing_past, sizing_next, sizing_end}
-use Prim.Native.Nat.{◌-◌}
 use Rattle.log_item.proofs.writing.tails_size.Goals as goal
 
 pub returns-then-total-lengths : goal.returns-then-total-lengths
