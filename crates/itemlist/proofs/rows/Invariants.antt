@@ -1,10 +1,7 @@
 -- `itemlist::rows` is safe and ends: each turn passes an item or a row.
 -- Assumes nothing.
-use Prim.Native.Nat.{◌≤◌, ◌+◌, ◌-◌}
+use Prim.Native.Nat.{◌+◌, ◌-◌}
 use Rattle.itemlist.proofs.rows.Given as goal
-
-abbrev pub invariant-loop-left : goal.invariant-loop-left
-invariant-loop-left g l = (l.i ≤ 256) × (l.j ≤ 1024)
 
 abbrev pub decreases-loop-left : goal.decreases-loop-left
 decreases-loop-left g l = (256 - l.i) + (1024 - l.j)

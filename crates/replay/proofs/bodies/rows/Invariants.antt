@@ -1,10 +1,7 @@
 -- `replay::bodies::rows` is safe and ends.
 -- Assumes nothing.
-use Rattle.std.proofs.Common.{◌-◌, ◌≤◌}
+use Rattle.std.proofs.Common.{◌-◌}
 use Rattle.replay.proofs.bodies.rows.Given as goal
-
-abbrev pub invariant-loop-i : goal.invariant-loop-i
-invariant-loop-i l = l.i ≤ 256
 
 abbrev pub decreases-loop-i : goal.decreases-loop-i
 decreases-loop-i l = 256 - l.i

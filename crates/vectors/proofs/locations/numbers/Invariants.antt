@@ -1,10 +1,7 @@
 -- `vectors::locations::numbers` is safe and ends.
 -- Assumes nothing.
-use Prim.Native.Nat.{◌≤◌, ◌-◌}
+use Prim.Native.Nat.{◌-◌}
 use Rattle.vectors.proofs.locations.numbers.Given as goal
-
-abbrev pub invariant-loop-k : goal.invariant-loop-k
-invariant-loop-k l = l.k ≤ 6
 
 abbrev pub decreases-loop-k : goal.decreases-loop-k
 decreases-loop-k l = 6 - l.k

@@ -1,10 +1,7 @@
 -- `vectors::locations::rows` is safe and ends.
 -- Assumes nothing.
-use Prim.Native.Nat.{◌≤◌, ◌-◌}
+use Prim.Native.Nat.{◌-◌}
 use Rattle.vectors.proofs.locations.rows.Given as goal
-
-abbrev pub invariant-loop-len : goal.invariant-loop-len
-invariant-loop-len l = l.len ≤ 64
 
 abbrev pub decreases-loop-len : goal.decreases-loop-len
 decreases-loop-len l = 64 - l.len
