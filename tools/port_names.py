@@ -148,6 +148,8 @@ def main():
                     return n
                 if rt and "-" in n and not clause:
                     return n
+                if p.endswith("/Determined.antt"):
+                    return names[n].removesuffix("_lem")
                 return names[n]
 
             aliases = {m.group(3) for m in map(USE.match, t.split("\n")) if m and m.group(3) and own_module(m.group(1), crates)}

@@ -90,6 +90,10 @@ module _ {n : ℕ} {text : List ℕ} {left : ℕ} where
   puts_more zero w h = absurd (omega (arith, some_left zero w h))
   puts_more (suc i) w h = let e : suc i - 1 ≡ i = omega arith in rw e (next_digit i w h)
 
+  -- all of them are there
+  pub long_enough : {i : ℕ} → Puts n text i left → (d : ℕ) → 20 ≤ length (set text i d)
+  long_enough {i} w d = omega (arith, length-set text i d, w.long)
+
   pub puts_end : {i : ℕ} → Puts n text i left → left < 10 → take (20 - i) (drop i (set text i (48 + left))) ≡ decimal n
   puts_end {i} w h =
       let all : length (drop i (set text i (48 + left))) ≤ 20 - i = omega (arith, length-drop i (set text i (48 + left)), length-set text i (48 + left), w.long) in

@@ -4,7 +4,7 @@ use Prim.Native.Nat.{ℕ, ◌+◌, ◌≤◌}
 use mathlib.Core.Path.{◌≡◌, ap, ◌∙◌}
 use mathlib.Core.List.{List, ◌++◌, append_assoc}
 use native.Mathlib.Omega.{arith}
-use lib.ListN.{length, take, drop, length-append}
+use lib.ListN.{length, take, drop, length-append, length-take}
 use lib.Seq.{length-take-le, take_at}
 use borrow.Author.Tests.{le-leb}
 use Rattle.words.specs.Write.{wrote_at, placed}
@@ -31,6 +31,11 @@ pub piece : (line : List ℕ) (at : ℕ) (x : List ℕ) {w : Wrote} {later : Lis
 piece line at x {later = later} room e p =
     let q = place_after_lem line at x room e.0 p in
     record { text = rw (q, e.1) (front line at x room); long = q }
+
+-- It ends in the line.
+pub ends_inside : {line : List ℕ} {at : ℕ} {x later : List ℕ} {next : ℕ} → at ≤ length line → Longer line at x later next → next ≤ length later
+ends_inside {line} {at} {x} {later} {next} h f =
+    omega (arith, f.long, length-take next later, ap length f.text, length-append (take at line) x, length-take-le at line h)
 
 -- Two pieces are one.
 pub joined : {line₀ line₁ line₂ : List ℕ} {a b c : ℕ} {x y : List ℕ} → Longer line₀ a x line₁ b → Longer line₁ b y line₂ c → Longer line₀ a (x ++ y) line₂ c

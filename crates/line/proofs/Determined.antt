@@ -35,8 +35,8 @@ part κs a x y s t p q = p ∙ sym q
 pub front : OneAnswer 1 front_kinds.ps front_kinds.r front_reads.Post (λ κs x y s t. seen x ≡ seen y)
 front κs a x y s t p q = p ∙ sym q
 
-pub words_from_lem : OneAnswer 1 words_from_kinds.ps words_from_kinds.r words_from_reads.Post (λ κs x y s t. seen x ≡ seen y)
-words_from_lem κs a x y s t p q = p ∙ sym q
+pub words_from : OneAnswer 1 words_from_kinds.ps words_from_kinds.r words_from_reads.Post (λ κs x y s t. seen x ≡ seen y)
+words_from κs a x y s t p q = p ∙ sym q
 
 pub word : OneAnswer 1 word_kinds.ps word_kinds.r word_reads.Post (λ κs x y s t. seen x ≡ seen y)
 word κs a x y s t p q = p ∙ sym q

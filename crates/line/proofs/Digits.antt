@@ -9,7 +9,7 @@ use native.Mathlib.Nat.{zero-add, pow-suc}
 use native.Mathlib.Numerals.{add-one}
 use lib.Dec.{leb}
 use lib.ListN.{length, get_or, take, drop, set, length-append, length-set}
-use lib.Seq.{take-suc, paste-suc}
+use lib.Seq.{take_all, take-suc, paste-suc}
 use borrow.Author.Tests.{leb-true, le-leb, lt-leb}
 use Rattle.line.specs.Hex.{digit_of, hex_number, hex_bytes}
 
@@ -87,6 +87,9 @@ spelt_more {digits} {n} {i} d w h e = record {
       (omega (arith, w.low, e, digit_small (get_or digits i 0)));
 }
 
+pub spelt_end : {digits : List ℕ} {n i : ℕ} → Spelt digits n i → length digits ≤ i → n ≡ hex_number digits % 2 ^ 64
+spelt_end {digits} {n} {i} w h = rw (take_all i digits h) at w.low
+
 -- ---- bytes
 
 pub length_bytes : (ds : List ℕ) → length (hex_bytes ds) ≡ length ds / 2
@@ -112,6 +115,9 @@ pub record Laid (digits out₀ : List ℕ) (n : ℕ) (out : List ℕ) (i : ℕ) 
   pub same : out ≡ take i (hex_bytes digits) ++ drop i out₀
 
 module _ {digits out₀ : List ℕ} {n : ℕ} where
+  pub laid_start : Laid digits out₀ n out₀ 0
+  laid_start = record { within = zero-le; long = refl; same = refl }
+
   module _ {out : List ℕ} {i : ℕ} (most : n ≡ min (length out₀) (length digits / 2)) (w : Laid digits out₀ n out i) where
     pub laid_more : (b : ℕ) → i < n → b ≡ digit_of (get_or digits (2 * i) 0) * 16 + digit_of (get_or digits (2 * i + 1) 0) → Laid digits out₀ n (set out i b) (i + 1)
     laid_more b h e =

@@ -3,7 +3,7 @@
 use Prim.Native.Nat.{ℕ, zero, suc, ◌+◌, ◌-◌, ◌≤◌, ◌<◌, min, zero-le}
 use mathlib.Core.Path.{◌≡◌, refl, sym, ap, ◌∙◌}
 use mathlib.Core.Bool.{Bool, true, false}
-use mathlib.Core.List.{List, []}
+use mathlib.Core.List.{List, [], ◌∷◌}
 use native.Mathlib.Omega.{arith}
 use native.Mathlib.Numerals.{add-one}
 use lib.Dec.{leb, eqb}
@@ -88,6 +88,9 @@ pub record From (line : List ℕ) (k at left : ℕ) : Type 0 where
   pub within : at ≤ length line
   pub same : words_from (drop at line) left ≡ words_from line k
 
+pub from_start : (line : List ℕ) (k : ℕ) → From line k 0 k
+from_start line k = record { within = zero-le; same = refl }
+
 -- what stands from a place on, where it is what stands from word k on
 suffix : (line : Bor (List ℕ)) (k at : ℕ) → at ≤ length line.now → drop at line.now ≡ words_from line.now k → part_at line at (length line.now - at) ≡ words_part line k
 suffix line k at within same =
@@ -128,3 +131,13 @@ word_front line words k n e f =
     let b : words.now ≡ words_from line.now k = ap (λ p. p.bytes) e in
     let q : words.ref_ptr ≡ ending line (words_from line.now k) = ap (λ p. p.place) e in
     rw (g, b, q)
+
+-- ---- the first letter
+
+pub letter_some : (s : List ℕ) → 0 < length s → get_or s 0 0 ≡ get_or s 0 space
+letter_some [] h = absurd (omega arith)
+letter_some (x ∷ s) h = refl
+
+pub letter_none : (s : List ℕ) → length s ≤ 0 → space ≡ get_or s 0 space
+letter_none [] h = refl
+letter_none (x ∷ s) h = absurd (omega arith)

@@ -24,8 +24,8 @@ use Rattle.location_rules.proofs.no_run.Reads as no_run_reads
 pub stops : OneAnswer 0 stops_kinds.ps stops_kinds.r stops_reads.Post (λ κs x y s t. x ≡ y)
 stops κs a x y s t p q = p ∙ sym q
 
-pub stop_of_lem : OneAnswer 0 stop_of_kinds.ps stop_of_kinds.r stop_of_reads.Post (λ κs x y s t. x ≡ y)
-stop_of_lem κs a x y s t p q = p ∙ sym q
+pub stop_of : OneAnswer 0 stop_of_kinds.ps stop_of_kinds.r stop_of_reads.Post (λ κs x y s t. x ≡ y)
+stop_of κs a x y s t p q = p ∙ sym q
 
 pub is_formed : OneAnswer 0 is_formed_kinds.ps is_formed_kinds.r is_formed_reads.Post (λ κs x y s t. x ≡ y)
 is_formed κs a x y s t p q = p ∙ sym q
@@ -33,8 +33,8 @@ is_formed κs a x y s t p q = p ∙ sym q
 pub is_ready : OneAnswer 0 is_ready_kinds.ps is_ready_kinds.r is_ready_reads.Post (λ κs x y s t. x ≡ y)
 is_ready κs a x y s t p q = p ∙ sym q
 
-pub overlap_of_lem : OneAnswer 0 overlap_of_kinds.ps overlap_of_kinds.r overlap_of_reads.Post (λ κs x y s t. x ≡ y)
-overlap_of_lem κs a x y s t p q = p ∙ sym q
+pub overlap_of : OneAnswer 0 overlap_of_kinds.ps overlap_of_kinds.r overlap_of_reads.Post (λ κs x y s t. x ≡ y)
+overlap_of κs a x y s t p q = p ∙ sym q
 
 pub decide : OneAnswer 0 decide_kinds.ps decide_kinds.r decide_reads.Post (λ κs x y s t. x ≡ y)
 decide κs a x y s t p q = p ∙ sym q

@@ -62,8 +62,8 @@ check κs a x y s t p q = p ∙ sym q
 pub plain : OneAnswer 1 plain_kinds.ps plain_kinds.r plain_reads.Post (λ κs x y s t. x ≡ y)
 plain κs a x y s t p q = p ∙ sym q
 
-pub read_items_lem : OneAnswer 1 read_items_kinds.ps read_items_kinds.r read_items_reads.Post (λ κs x y s t. x ≡ y)
-read_items_lem κs a x y s t p q = p ∙ sym q
+pub read_items : OneAnswer 1 read_items_kinds.ps read_items_kinds.r read_items_reads.Post (λ κs x y s t. x ≡ y)
+read_items κs a x y s t p q = p ∙ sym q
 
 pub decode_log_item_batch : OneAnswer 1 decode_log_item_batch_kinds.ps decode_log_item_batch_kinds.r decode_log_item_batch_reads.Post (λ κs x y s t. x ≡ y)
 decode_log_item_batch κs a x y s t p q = p ∙ sym q

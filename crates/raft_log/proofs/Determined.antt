@@ -85,9 +85,9 @@ read_body κs a x y s t p q =
     let e = same_replied p q (ap check_reply (v.answer ∙ sym w.answer)) in
     (e.0, e.1, v.rows.item_rows ∙ sym w.rows.item_rows, v.rows.entry_rows ∙ sym w.rows.entry_rows)
 
-pub read_batch_lem : OneAnswer 4 read_batch_kinds.ps read_batch_kinds.r read_batch_reads.Post
+pub read_batch : OneAnswer 4 read_batch_kinds.ps read_batch_kinds.r read_batch_reads.Post
     (λ κs x y s t. (x ≡ y) × (s.1.1.1.1.0.now ≡ t.1.1.1.1.0.now) × (s.1.1.0.now ≡ t.1.1.0.now) × (s.1.1.1.0.now ≡ t.1.1.1.0.now))
-read_batch_lem κs a x y s t p q =
+read_batch κs a x y s t p q =
     let v = p.promised in
     let w = q.promised in
     let e = same_replied p q (same_batch v w) in
