@@ -1,6 +1,6 @@
 /* raft_log.h: log batches in the format of raft-engine, read and written in memory that the caller lends.
  *
- * The functions stand in libraft_log.a (`rt staticlib raft_log`), which needs no other library and allocates nothing. Each is proved to
+ * The functions stand in libraft_log.a (`rt lib` in crates/raft_log), which needs no other library and allocates nothing. Each is proved to
  * answer as document 01 says for all inputs. Nothing proves this header: change it with crates/raft_log/src and
  * compare/raft_log/src/sys.rs, and run compare/test and compare/examples/run.
  *

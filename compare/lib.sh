@@ -40,7 +40,15 @@ Where crates are missing: run as root '$sources/build.sh apt FOLDER' (Debian 12)
 # Builds the static library of a crate in target/staticlib.
 build_library() {
     command -v rt >/dev/null || fail "missing: rt, the command of the Rattle kit, with which the library is built"
-    (cd "$root" && rt staticlib "$1") || fail "the library $1 is not proved, so it was not built"
+    (cd "$root/crates/$1" && rt lib) || fail "the library $1 is not proved, so it was not built"
+    mkdir -p "$root/target/staticlib"
+    cp "$root/crates/$1/out/lib$1.a" "$root/target/staticlib"
+}
+
+# Builds a program, crates/NAME/out/NAME, and runs it on its input.
+build_program() {
+    command -v rt >/dev/null || fail "missing: rt, the command of the Rattle kit, with which the program is built"
+    (cd "$root/crates/$1" && rt run <stdin >/dev/null) || fail "the program $1 is not proved, so it was not built"
 }
 
 # Sets speed to the folder of libspeed.a and libspeed_tables.a. To be called before find_library, which may set RAFT_LOG_LIB.
