@@ -3,18 +3,33 @@
 // that wait, and each function answers how many wait after it.
 #![tactic(auto)]
 
+ghost use Rattle.std.specs.Prelude.{◌≤◌, IfOk, length};
+
 use log_batch::LogItemBatch;
 use log_item::{EntryIndex, LogItem};
 use std::io::{self, Read};
 use words::Wrote;
 
-// A longer body is read as cut there.
-const MOST: u64 = 65_536;
-
 fn main(rt: HostRuntime) -> io::Result<()> {
-    let mut input = Vec::new(rt.alloc());
-    rt.reader().take(MOST).read_to_end(&mut input)?;
-    list(&rt, log_batch::read_items(input.as_slice()))
+    let mut input = [0u8; 65_536];
+    let n = read_full(&rt, &mut input)?;
+    list(&rt, log_batch::read_items(&input[..n]))
+}
+
+// Reads standard input to its end, or until the buffer is full: a longer body is taken as cut there.
+fn read_full(rt: &impl Input, buf: &mut [u8]) -> io::Result<usize>
+    ensures { IfOk result (λ n. n ≤ length buf.new) }
+{
+    let mut reader = rt.reader();
+    let mut n = 0;
+    while n < buf.len() {
+        let more = reader.read(&mut buf[n..])?;
+        if more == 0 {
+            break;
+        }
+        n += more;
+    }
+    Ok(n)
 }
 
 fn list(rt: &impl Print, table: LogItemBatch) -> io::Result<()> {

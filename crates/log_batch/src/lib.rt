@@ -245,6 +245,7 @@ impl LogBatch {
 }
 
 // What the two words of a header state.
+#[tactic(auto, using(crate::proofs::Frames::frame_type, crate::proofs::Frames::frame_above, crate::proofs::Frames::frame_below, crate::proofs::Frames::frame_good))]
 fn read_frame(first: u64, second: u64) -> HeaderRead
     ensures { header_got result ≡ frame first second 0 }
 {

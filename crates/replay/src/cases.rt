@@ -1,6 +1,7 @@
 // The lines of standard input, told apart by their first letter. Input comes in pieces of 65,536 bytes, each of which ends with a line.
+ghost use Rattle.std.specs.Prelude.{◌≤◌, IfOk, length};
+
 use crate::{batches, bodies, locations, number};
-use std::alloc::Global;
 use std::io::{self, Read};
 
 // Lines that are a case, and those on which both answers are the same.
@@ -21,13 +22,11 @@ pub(crate) enum Outcome {
 // As many pieces as there may be.
 const PIECES: usize = 64;
 
-const PIECE: u64 = 65_536;
-
-pub(crate) fn run(rt: &(impl Input + Print), alloc: Global) -> io::Result<()> {
+pub(crate) fn run(rt: &(impl Input + Print)) -> io::Result<()> {
     let mut counts = Counts { cases: 0, agree: 0 };
     let mut k = 0;
     while k < PIECES {
-        counts = piece(rt, alloc, counts)?;
+        counts = piece(rt, counts)?;
         k += 1;
     }
     let agree = counts.agree;
@@ -36,10 +35,26 @@ pub(crate) fn run(rt: &(impl Input + Print), alloc: Global) -> io::Result<()> {
 }
 
 // The counts after the next piece of input.
-fn piece(rt: &(impl Input + Print), alloc: Global, before: Counts) -> io::Result<Counts> {
-    let mut text = Vec::new(alloc);
-    rt.reader().take(PIECE).read_to_end(&mut text)?;
-    lines(rt, text.as_slice(), before)
+fn piece(rt: &(impl Input + Print), before: Counts) -> io::Result<Counts> {
+    let mut text = [0u8; 65_536];
+    let n = read_full(rt, &mut text)?;
+    lines(rt, &text[..n], before)
+}
+
+// Reads standard input to its end, or until the buffer is full.
+fn read_full(rt: &impl Input, buf: &mut [u8]) -> io::Result<usize>
+    ensures { IfOk result (λ n. n ≤ length buf.new) }
+{
+    let mut reader = rt.reader();
+    let mut n = 0;
+    while n < buf.len() {
+        let more = reader.read(&mut buf[n..])?;
+        if more == 0 {
+            break;
+        }
+        n += more;
+    }
+    Ok(n)
 }
 
 fn lines(rt: &impl Print, text: &[u8], before: Counts) -> io::Result<Counts> {

@@ -13,5 +13,5 @@ mod number;
 use std::io;
 
 fn main(rt: HostRuntime) -> io::Result<()> {
-    cases::run(&rt, rt.alloc())
+    cases::run(&rt)
 }

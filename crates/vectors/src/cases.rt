@@ -31,19 +31,34 @@
 //                                                                 call of nth, a third of the way
 //     jump NAME AT TOTAL USED ITEM COUNT CALLS BYTES              a cursor made of these numbers, stepped so many times in such a body
 //     tail NAME BYTES OTHER                                       the first item of such a body, its rows read in the other
+ghost use Rattle.std.specs.Prelude.{◌≤◌, IfOk, length};
+
 use crate::{
     alone, bodies, headers, listings, number, rewrites, statuses, steps, sums, views, writes,
 };
-use std::alloc::Global;
 use std::io::{self, Read};
 
 // Longer input is taken as cut there.
-const MOST: u64 = 65_536;
+pub(crate) fn run(rt: &(impl Input + Print)) -> io::Result<()> {
+    let mut text = [0u8; 65_536];
+    let n = read_full(rt, &mut text)?;
+    lines(rt, &text[..n])
+}
 
-pub(crate) fn run(rt: &(impl Input + Print), alloc: Global) -> io::Result<()> {
-    let mut text = Vec::new(alloc);
-    rt.reader().take(MOST).read_to_end(&mut text)?;
-    lines(rt, text.as_slice())
+// Reads standard input to its end, or until the buffer is full.
+fn read_full(rt: &impl Input, buf: &mut [u8]) -> io::Result<usize>
+    ensures { IfOk result (λ n. n ≤ length buf.new) }
+{
+    let mut reader = rt.reader();
+    let mut n = 0;
+    while n < buf.len() {
+        let more = reader.read(&mut buf[n..])?;
+        if more == 0 {
+            break;
+        }
+        n += more;
+    }
+    Ok(n)
 }
 
 fn lines(rt: &impl Print, text: &[u8]) -> io::Result<()> {

@@ -22,5 +22,5 @@ mod writes;
 use std::io;
 
 fn main(rt: HostRuntime) -> io::Result<()> {
-    cases::run(&rt, rt.alloc())
+    cases::run(&rt)
 }

@@ -5,11 +5,12 @@ use mathlib.Core.Path.{◌≡◌, refl, sym, ap, ◌∙◌}
 use mathlib.Core.Bool.{Bool, true, false, cond}
 use mathlib.Core.List.{List, [], ◌∷◌}
 use native.Mathlib.Omega.{arith}
-use native.Mathlib.Nat.{add-zero, add-suc, mod-one, one-le-pow, pow-suc, pow-succ'}
+use native.Mathlib.Nat.{add-zero, add-suc, div-one, mod-one, one-le-pow, pow-suc, pow-succ'}
 use lib.ListN.{length, get_or, take, drop}
-use lib.Dec.{leb, lit<}
+use lib.Dec.{leb, lit<, lit≤}
 use lib.Seq.{drop-cons}
 use lib.Arith.{mod-mul}
+use lib.Pow.{shl_exact}
 use borrow.Author.Tests.{le-leb, lt-leb, leb-true, leb-false}
 use Rattle.words.specs.declared.U64Read.TheVariants as u64
 use Rattle.words.specs.declared.U32Read.TheVariants as u32
@@ -74,6 +75,17 @@ u64_ended s at e = go (leb (at + 8) (length s)) refl e
 
 -- ---- the words as the code puts them together
 
+-- the word as a sum of shifted bytes
+pub big_endian_sum : (a b c d e f g h : ℕ) → a < 256 → b < 256 → c < 256 → d < 256 → e < 256 → f < 256 → g < 256
+    → (a * 2 ^ 56) % 2 ^ 64 + (b * 2 ^ 48) % 2 ^ 64 + (c * 2 ^ 40) % 2 ^ 64 + (d * 2 ^ 32) % 2 ^ 64
+    + (e * 2 ^ 24) % 2 ^ 64 + (f * 2 ^ 16) % 2 ^ 64 + (g * 2 ^ 8) % 2 ^ 64 + h
+    ≡ big_endian (a ∷ b ∷ c ∷ d ∷ e ∷ f ∷ g ∷ h ∷ [])
+unfolding big_endian
+big_endian_sum a b c d e f g h ha hb hc hd he hf hg =
+    rw
+    (shl_exact 8 56 64 ha (lit≤ tt), shl_exact 8 48 64 hb (lit≤ tt), shl_exact 8 40 64 hc (lit≤ tt), shl_exact 8 32 64 hd (lit≤ tt), shl_exact 8 24 64 he (lit≤ tt), shl_exact 8 16 64 hf (lit≤ tt), shl_exact 8 8 64 hg (lit≤ tt))
+    (omega arith)
+
 pub little_endian_sum : (a b c d : ℕ) → b < 256 → c < 256 → d < 256
     → a + (b * 2 ^ 8) % 2 ^ 32 + (c * 2 ^ 16) % 2 ^ 32 + (d * 2 ^ 24) % 2 ^ 32 ≡ little_endian (a ∷ b ∷ c ∷ d ∷ [])
 unfolding little_endian
@@ -91,6 +103,12 @@ big_endian_halves a b c d e f g h = omega arith
 
 -- ---- a word's bytes, as the code computes them
 
+pub big_endian_parts : (w : ℕ)
+    → (w / 2 ^ 56 % 256) ∷ (w / 2 ^ 48 % 256) ∷ (w / 2 ^ 40 % 256) ∷ (w / 2 ^ 32 % 256) ∷ (w / 2 ^ 24 % 256) ∷ (w / 2 ^ 16 % 256) ∷ (w / 2 ^ 8 % 256) ∷ (w % 256) ∷ []
+    ≡ big_endian_bytes 8 w
+unfolding big_endian_bytes
+big_endian_parts w = rw (div-one w)
+
 pub little_endian_parts : (w : ℕ) → (w % 256) ∷ (w / 256 % 256) ∷ (w / 65536 % 256) ∷ (w / 16777216 % 256) ∷ [] ≡ little_endian_bytes 4 w
 unfolding little_endian_bytes
 little_endian_parts w =
@@ -99,10 +117,10 @@ little_endian_parts w =
     rw (second, third)
 
 -- the bytes of the two halves, turned round
-pub big_endian_parts : (w : ℕ) (high low : List ℕ) → high ≡ little_endian_bytes 4 (w / 2 ^ 32) → low ≡ little_endian_bytes 4 (w % 2 ^ 32)
+pub half_parts : (w : ℕ) (high low : List ℕ) → high ≡ little_endian_bytes 4 (w / 2 ^ 32) → low ≡ little_endian_bytes 4 (w % 2 ^ 32)
     → get_or high 3 0 ∷ get_or high 2 0 ∷ get_or high 1 0 ∷ get_or high 0 0 ∷ get_or low 3 0 ∷ get_or low 2 0 ∷ get_or low 1 0 ∷ get_or low 0 0 ∷ [] ≡ big_endian_bytes 8 w
 unfolding big_endian_bytes little_endian_bytes
-big_endian_parts w high low h l =
+half_parts w high low h l =
     let seventh : w / 2 ^ 32 / 256 / 256 / 256 % 256 ≡ w / 256 ^ 7 % 256 = omega arith in
     let sixth : w / 2 ^ 32 / 256 / 256 % 256 ≡ w / 256 ^ 6 % 256 = omega arith in
     let fifth : w / 2 ^ 32 / 256 % 256 ≡ w / 256 ^ 5 % 256 = omega arith in

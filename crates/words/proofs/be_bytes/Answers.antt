@@ -1,7 +1,7 @@
 -- `words::be_bytes` meets its contract.
 -- Assumes nothing.
-use Rattle.words.proofs.Words.{big_endian_parts}
+use Rattle.words.proofs.Words.{half_parts}
 use Rattle.words.proofs.be_bytes.Goals as goal
 
 pub returns : goal.returns
-returns c = big_endian_parts c.args.w _ _ c.le_bytes-high.ensures c.le_bytes-low.ensures
+returns c = half_parts c.args.w _ _ c.le_bytes-high.ensures c.le_bytes-low.ensures
