@@ -1,0 +1,9 @@
+-- No second answer: two results that meet one contract are equal.
+-- Assumes nothing.
+use mathlib.Core.Path.{◌≡◌, sym, ◌∙◌}
+use Rattle.one_answer.specs.OneAnswer.{OneAnswer}
+use Rattle.refusal.proofs.Reason.number.Kinds as number_kinds
+use Rattle.refusal.proofs.Reason.number.Reads as number_reads
+
+pub number : OneAnswer 0 number_kinds.ps number_kinds.r number_reads.Post (λ κs x y s t. x ≡ y)
+number κs a x y s t p q = p ∙ sym q
