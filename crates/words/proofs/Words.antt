@@ -5,16 +5,31 @@ use mathlib.Core.Path.{◌≡◌, refl, sym, ap, ◌∙◌}
 use mathlib.Core.Bool.{Bool, true, false, cond}
 use mathlib.Core.List.{List, [], ◌∷◌}
 use native.Mathlib.Omega.{arith}
-use native.Mathlib.Nat.{add-zero, add-suc, div-one, mod-one, one-le-pow, pow-suc, pow-succ'}
+use native.Mathlib.Nat.{add-zero, add-suc, mod-one, one-le-pow, pow-suc, pow-succ'}
 use lib.ListN.{length, get_or, take, drop}
-use lib.Dec.{leb, lit<, lit≤}
+use lib.Dec.{leb, lit<}
 use lib.Seq.{drop-cons}
+use Rattle.std.specs.Int.{w32, to_le_bytes, from_le_bytes, from_be_bytes}
 use lib.Arith.{mod-mul}
-use lib.Pow.{shl_exact}
 use borrow.Author.Tests.{le-leb, lt-leb, leb-true, leb-false}
-use Rattle.words.specs.declared.U64Read.TheVariants as u64
-use Rattle.words.specs.declared.U32Read.TheVariants as u32
-use Rattle.words.specs.Word.{big_endian, little_endian, big_endian_bytes, little_endian_bytes, read_u64, read_u32}
+use Rattle.std.specs.Prelude.{Some, None}
+use Rattle.words.specs.declared.Piece.{Piece}
+use Rattle.words.specs.Word.{big_endian, little_endian, big_endian_bytes, little_endian_bytes, piece, read_u64, read_u32}
+
+-- ---- the words as the code puts them together
+
+pub low_first : (a b c d : ℕ) → from_le_bytes w32 (a ∷ b ∷ c ∷ d ∷ []) ≡ little_endian (a ∷ b ∷ c ∷ d ∷ [])
+unfolding little_endian
+low_first a b c d = omega arith
+
+pub high_first : (a b c d : ℕ) → from_be_bytes w32 (a ∷ b ∷ c ∷ d ∷ []) ≡ big_endian (a ∷ b ∷ c ∷ d ∷ [])
+unfolding big_endian
+high_first a b c d = omega arith
+
+pub big_endian_halves : (a b c d e f g h : ℕ)
+    → big_endian (a ∷ b ∷ c ∷ d ∷ []) * 2 ^ 32 + big_endian (e ∷ f ∷ g ∷ h ∷ []) ≡ big_endian (a ∷ b ∷ c ∷ d ∷ e ∷ f ∷ g ∷ h ∷ [])
+unfolding big_endian
+big_endian_halves a b c d e f g h = omega arith
 
 -- ---- reading
 
@@ -39,85 +54,63 @@ front : (k : ℕ) (s : List ℕ) (p : ℕ) → p + suc k ≤ length s → take (
 front k s p h = part (suc k) s p h ∙ ap (λ (q : ℕ). get_or s q 0 ∷ bytes_at k s p 1) (add-zero p)
 
 module _ (s : List ℕ) (at : ℕ) where
-  pub u64_none : length s < at + 8 → u64.Eof ≡ read_u64 s at
+  pub u64_none : length s < at + 8 → None ≡ read_u64 s at
   unfolding read_u64
   u64_none h = simp (lt-leb _ _ h)
 
-  pub u32_none : length s < at + 4 → u32.Eof ≡ read_u32 s at
+  pub u32_none : length s < at + 4 → None ≡ read_u32 s at
   unfolding read_u32
   u32_none h = simp (lt-leb _ _ h)
 
-  pub u64_some : (w : ℕ) → at + 8 ≤ length s → w ≡ big_endian (get_or s at 0 ∷ bytes_at 7 s at 1) → u64.Done w (at + 8) ≡ read_u64 s at
+  pub u64_some : (h l : ℕ) → at + 8 ≤ length s → h ≡ big_endian (get_or s at 0 ∷ bytes_at 3 s at 1) → l ≡ big_endian (bytes_at 4 s at 4)
+      → Some (piece (h * 2 ^ 32 + l) (at + 8)) ≡ read_u64 s at
   unfolding read_u64
-  u64_some w h e = simp (le-leb _ _ h) (ap (λ (x : ℕ). u64.Done x (at + 8)) (e ∙ ap big_endian (sym (front 7 s at h))))
+  u64_some h l e f g = simp (le-leb _ _ e) (ap (λ (x : ℕ). Some (piece x (at + 8)))
+      (rw (f, g) (big_endian_halves (get_or s at 0) (get_or s (at + 1) 0) (get_or s (at + 2) 0) (get_or s (at + 3) 0) (get_or s (at + 4) 0) (get_or s (at + 5) 0) (get_or s (at + 6) 0) (get_or s (at + 7) 0))
+      ∙ ap big_endian (sym (front 7 s at e))))
 
-  pub u32_some : (w : ℕ) → at + 4 ≤ length s → w ≡ little_endian (get_or s at 0 ∷ bytes_at 3 s at 1) → u32.Done w (at + 4) ≡ read_u32 s at
+  pub u32_some : at + 4 ≤ length s → Some (piece (from_le_bytes w32 (get_or s at 0 ∷ bytes_at 3 s at 1)) (at + 4)) ≡ read_u32 s at
   unfolding read_u32
-  u32_some w h e = simp (le-leb _ _ h) (ap (λ (x : ℕ). u32.Done x (at + 4)) (e ∙ ap little_endian (sym (front 3 s at h))))
+  u32_some h = simp (le-leb _ _ h)
+      (ap (λ (x : ℕ). Some (piece x (at + 4)))
+      (low_first (get_or s at 0) (get_or s (at + 1) 0) (get_or s (at + 2) 0) (get_or s (at + 3) 0) ∙ ap little_endian (sym (front 3 s at h))))
+
+-- what two pieces that are one have in common
+pub one_piece : {A : Type 0} {x y : A} {p q : ℕ} → Some (piece x p) ≡ Some (piece y q) → (x ≡ y) × (p ≡ q)
+one_piece {A} {x} {y} {p} {q} e =
+    let k : ◌≡◌ {A = Piece A} (piece x p) (piece y q) = cc in
+    (ap (λ (w : Piece A). w.value) k, ap (λ (w : Piece A). w.next) k)
 
 -- what an answer says of the bytes
-pub u64_known : (s : List ℕ) (at : ℕ) {w q : ℕ} → read_u64 s at ≡ u64.Done w q → (at + 8 ≤ length s) × (w ≡ big_endian (take 8 (drop at s))) × (q ≡ at + 8)
+pub u64_known : (s : List ℕ) (at : ℕ) {w q : ℕ} → read_u64 s at ≡ Some (piece w q) → (at + 8 ≤ length s) × (w ≡ big_endian (take 8 (drop at s))) × (q ≡ at + 8)
 unfolding read_u64
 u64_known s at {w} {q} e = go (leb (at + 8) (length s)) refl e
   where
-    go : (t : Bool) → leb (at + 8) (length s) ≡ t → cond t (u64.Done (big_endian (take 8 (drop at s))) (at + 8)) u64.Eof ≡ u64.Done w q
+    go : (t : Bool) → leb (at + 8) (length s) ≡ t → cond t (Some (piece (big_endian (take 8 (drop at s))) (at + 8))) None ≡ Some (piece w q)
         → (at + 8 ≤ length s) × (w ≡ big_endian (take 8 (drop at s))) × (q ≡ at + 8)
-    go true h f = (leb-true (at + 8) (length s) h, cc, cc)
+    go true h f = let k = one_piece f in (leb-true (at + 8) (length s) h, sym k.0, sym k.1)
     go false h f = let z : ◌≡◌ {A = ℕ} 0 1 = cc in absurd (omega arith)
 
-pub u64_ended : (s : List ℕ) (at : ℕ) → read_u64 s at ≡ u64.Eof → length s < at + 8
+pub u64_ended : (s : List ℕ) (at : ℕ) → read_u64 s at ≡ None → length s < at + 8
 unfolding read_u64
 u64_ended s at e = go (leb (at + 8) (length s)) refl e
   where
-    go : (t : Bool) → leb (at + 8) (length s) ≡ t → cond t (u64.Done (big_endian (take 8 (drop at s))) (at + 8)) u64.Eof ≡ u64.Eof → length s < at + 8
+    go : (t : Bool) → leb (at + 8) (length s) ≡ t → cond t (Some (piece (big_endian (take 8 (drop at s))) (at + 8))) None ≡ None → length s < at + 8
     go true h f = let z : ◌≡◌ {A = ℕ} 0 1 = cc in absurd (omega arith)
     go false h f = leb-false (at + 8) (length s) h
 
--- ---- the words as the code puts them together
-
--- the word as a sum of shifted bytes
-pub big_endian_sum : (a b c d e f g h : ℕ) → a < 256 → b < 256 → c < 256 → d < 256 → e < 256 → f < 256 → g < 256
-    → (a * 2 ^ 56) % 2 ^ 64 + (b * 2 ^ 48) % 2 ^ 64 + (c * 2 ^ 40) % 2 ^ 64 + (d * 2 ^ 32) % 2 ^ 64
-    + (e * 2 ^ 24) % 2 ^ 64 + (f * 2 ^ 16) % 2 ^ 64 + (g * 2 ^ 8) % 2 ^ 64 + h
-    ≡ big_endian (a ∷ b ∷ c ∷ d ∷ e ∷ f ∷ g ∷ h ∷ [])
-unfolding big_endian
-big_endian_sum a b c d e f g h ha hb hc hd he hf hg =
-    rw
-    (shl_exact 8 56 64 ha (lit≤ tt), shl_exact 8 48 64 hb (lit≤ tt), shl_exact 8 40 64 hc (lit≤ tt), shl_exact 8 32 64 hd (lit≤ tt), shl_exact 8 24 64 he (lit≤ tt), shl_exact 8 16 64 hf (lit≤ tt), shl_exact 8 8 64 hg (lit≤ tt))
-    (omega arith)
-
-pub little_endian_sum : (a b c d : ℕ) → b < 256 → c < 256 → d < 256
-    → a + (b * 2 ^ 8) % 2 ^ 32 + (c * 2 ^ 16) % 2 ^ 32 + (d * 2 ^ 24) % 2 ^ 32 ≡ little_endian (a ∷ b ∷ c ∷ d ∷ [])
-unfolding little_endian
-little_endian_sum a b c d hb hc hd = omega arith
-
--- four bytes turned round
-pub turned : (a b c d : ℕ) → little_endian (d ∷ c ∷ b ∷ a ∷ []) ≡ big_endian (a ∷ b ∷ c ∷ d ∷ [])
-unfolding big_endian little_endian
-turned a b c d = omega arith
-
-pub big_endian_halves : (a b c d e f g h : ℕ)
-    → big_endian (a ∷ b ∷ c ∷ d ∷ []) * 2 ^ 32 + big_endian (e ∷ f ∷ g ∷ h ∷ []) ≡ big_endian (a ∷ b ∷ c ∷ d ∷ e ∷ f ∷ g ∷ h ∷ [])
-unfolding big_endian
-big_endian_halves a b c d e f g h = omega arith
-
 -- ---- a word's bytes, as the code computes them
 
-pub big_endian_parts : (w : ℕ)
-    → (w / 2 ^ 56 % 256) ∷ (w / 2 ^ 48 % 256) ∷ (w / 2 ^ 40 % 256) ∷ (w / 2 ^ 32 % 256) ∷ (w / 2 ^ 24 % 256) ∷ (w / 2 ^ 16 % 256) ∷ (w / 2 ^ 8 % 256) ∷ (w % 256) ∷ []
-    ≡ big_endian_bytes 8 w
-unfolding big_endian_bytes
-big_endian_parts w = rw (div-one w)
-
-pub little_endian_parts : (w : ℕ) → (w % 256) ∷ (w / 256 % 256) ∷ (w / 65536 % 256) ∷ (w / 16777216 % 256) ∷ [] ≡ little_endian_bytes 4 w
+pub low_first_bytes : (w : ℕ) → to_le_bytes w32 w ≡ little_endian_bytes 4 w
 unfolding little_endian_bytes
-little_endian_parts w =
+low_first_bytes w =
+    let none : w / 1 % 256 ≡ w % 256 = omega arith in
     let second : w / 65536 ≡ w / 256 / 256 = omega arith in
     let third : w / 16777216 ≡ w / 256 / 256 / 256 = omega arith in
     rw (second, third)
 
 -- the bytes of the two halves, turned round
-pub half_parts : (w : ℕ) (high low : List ℕ) → high ≡ little_endian_bytes 4 (w / 2 ^ 32) → low ≡ little_endian_bytes 4 (w % 2 ^ 32)
+pub half_parts : (w : ℕ) (high low : List ℕ) → high ≡ to_le_bytes w32 (w / 2 ^ 32) → low ≡ to_le_bytes w32 (w % 2 ^ 32)
     → get_or high 3 0 ∷ get_or high 2 0 ∷ get_or high 1 0 ∷ get_or high 0 0 ∷ get_or low 3 0 ∷ get_or low 2 0 ∷ get_or low 1 0 ∷ get_or low 0 0 ∷ [] ≡ big_endian_bytes 8 w
 unfolding big_endian_bytes little_endian_bytes
 half_parts w high low h l =
@@ -128,7 +121,7 @@ half_parts w high low h l =
     let second : w % 2 ^ 32 / 256 / 256 % 256 ≡ w / 256 ^ 2 % 256 = omega arith in
     let first : w % 2 ^ 32 / 256 % 256 ≡ w / 256 ^ 1 % 256 = omega arith in
     let none : w % 2 ^ 32 % 256 ≡ w / 256 ^ 0 % 256 = omega arith in
-    rw (h, l, seventh, sixth, fifth, third, second, first, none)
+    rw (h ∙ low_first_bytes (w / 2 ^ 32), l ∙ low_first_bytes (w % 2 ^ 32), seventh, sixth, fifth, third, second, first, none)
 
 pub length_big : (k w : ℕ) → length (big_endian_bytes k w) ≡ k
 unfolding big_endian_bytes

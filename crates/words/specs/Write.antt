@@ -1,12 +1,10 @@
 -- What writing bytes at a place of a lent buffer answers, and what the buffer holds afterwards.
 -- Assumes nothing.
-use Rattle.std.specs.Prelude.{ℕ, ◌+◌, cond, List, ◌++◌, leb, length, take, drop}
-use Rattle.words.specs.declared.Wrote.{Wrote}
-use Rattle.words.specs.declared.Wrote.TheVariants.{Next, NoRoom}
+use Rattle.std.specs.Prelude.{ℕ, ◌+◌, Option, Some, None, cond, List, ◌++◌, leb, length, take, drop}
 
 -- the place after the bytes, where they fit
-abbrev pub wrote_at : List ℕ → ℕ → List ℕ → Wrote
-wrote_at out at bs = cond (leb (at + length bs) (length out)) (Next (at + length bs)) NoRoom
+abbrev pub wrote_at : List ℕ → ℕ → List ℕ → Option ℕ
+wrote_at out at bs = cond (leb (at + length bs) (length out)) (Some (at + length bs)) None
 
 -- the same, or the place itself where they do not fit
 unfoldable pub next_at : List ℕ → ℕ → List ℕ → ℕ

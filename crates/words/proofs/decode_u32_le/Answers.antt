@@ -7,8 +7,5 @@ use Rattle.words.proofs.decode_u32_le.Goals as goal
 pub returns-then-buf-at : goal.returns-then-buf-at
 returns-then-buf-at c = let a = c.args in u32_none a.buf.now a.at (omega arith)
 
-pub returns-then-buf-at-lt4 : goal.returns-then-buf-at-lt4
-returns-then-buf-at-lt4 c = let a = c.args in u32_none a.buf.now a.at (omega arith)
-
 pub returns : goal.returns
-returns c = let a = c.args in u32_some a.buf.now a.at _ (omega arith) c.from_le.ensures
+returns c = let a = c.args in rw c.from_le_bytes-value.ensures (u32_some a.buf.now a.at (omega arith))
