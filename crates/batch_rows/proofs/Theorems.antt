@@ -25,6 +25,7 @@ use Rattle.log_batch.specs.Writing.{AllSmall}
 use Rattle.log_batch.specs.Written.{BatchWritten}
 use Rattle.log_batch.proofs.Theorems.{body_under_another, batch_under_another}
 use Rattle.batch_rows.proofs.RowsWritten.{rows_own}
+use Rattle.refusal.specs.declared.Reason.TheVariants.{ChecksumWrong}
 
 -- ---- the numbers of lent rows are words
 
@@ -73,7 +74,7 @@ module _ (items entries s : List ℕ) (checked : Bool) (word : (i : ℕ) → get
     {out : List ℕ} {r : Encoded} {later : List ℕ} (h : r.length ≡ 0 → ⊥) where
   pub rows_second_signature : (at : ℕ)
       → MeasuredWritten (measure_rows s checked items entries) (rows_bytes s items entries signature) out at r later
-      → (read_body (take r.length (drop at later)) b ≡ rejected 6 0) ↔ (signature ≡ b → ⊥)
+      → (read_body (take r.length (drop at later)) b ≡ rejected ChecksumWrong 0) ↔ (signature ≡ b → ⊥)
   rows_second_signature at w =
       body_under_another s checked (row_items items) (entry_lengths entries) (rows_all_small items word) store signature b key (rows_own s checked items entries) h at w
 

@@ -13,6 +13,7 @@ use Rattle.log_batch.proofs.Accepts.{of_accepted}
 use Rattle.log_batch.proofs.Bodies.{parts}
 use Rattle.log_batch.proofs.Listing.{sound_items}
 use Rattle.item_reader.specs.Cursor.{place_of, after_count, at_first, started}
+use Rattle.refusal.specs.declared.Reason.TheVariants.{ItemsTooMany}
 
 module _ {xs : List LogItem} {rows : List EntryIndex} {u q : ℕ} where
   -- The items that are read stand after the count, and are as many as it says.
@@ -20,13 +21,13 @@ module _ {xs : List LogItem} {rows : List EntryIndex} {u q : ℕ} where
   unfolding read_items count after_count
   after_count_lem s e = by_number (number Any s 0) e
     where
-      by_test : (b : Bool) (k p : ℕ) → counted (◌>>◌ (b else 9) (done k) p) (λ n z. items Any s n 0 0 0 z) ≡ accepted xs rows u q → items Any s (length xs) 0 0 0 p ≡ accepted xs rows u q
+      by_test : (b : Bool) (k p : ℕ) → counted (◌>>◌ (b else ItemsTooMany) (done k) p) (λ n z. items Any s n 0 0 0 z) ≡ accepted xs rows u q → items Any s (length xs) 0 0 0 p ≡ accepted xs rows u q
       by_test true k p c =
           let long : length xs ≡ k = (of_accepted (sound_items Any s tt k 0 0 0 p (omega arith)) c).has.long in
           rw long c
       by_test false k p c = let o : ◌≡◌ {A = ℕ} 0 1 = cc in absurd (omega arith)
 
-      by_number : (g : Got ℕ) → counted (bind g (λ k. ◌>>◌ (leb k 256 else 9) (done k))) (λ n z. items Any s n 0 0 0 z) ≡ accepted xs rows u q
+      by_number : (g : Got ℕ) → counted (bind g (λ k. ◌>>◌ (leb k 256 else ItemsTooMany) (done k))) (λ n z. items Any s n 0 0 0 z) ≡ accepted xs rows u q
           → items Any s (length xs) 0 0 0 (place_of g) ≡ accepted xs rows u q
       by_number (got k p) c = by_test (leb k 256) k p c
       by_number (refused n) c = let o : ◌≡◌ {A = ℕ} 0 1 = cc in absurd (omega arith)

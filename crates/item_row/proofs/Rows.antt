@@ -10,6 +10,7 @@ use Rattle.log_item.specs.declared.LogItemContent.TheVariants as contents
 use Rattle.item_row.specs.declared.ItemRowRead.{ItemRowRead}
 use Rattle.item_row.specs.declared.ItemRowRead.TheVariants.{Refused}
 use Rattle.item_row.specs.Row.{item_of, span_of, command_row, key_row, row_item}
+use Rattle.refusal.specs.declared.Reason.TheVariants.{CommandUnknown, ItemTypeUnknown, OpUnknown}
 
 module _ (group kind a : ℕ) where
   pub row_clean : kind ≡ 1 → item_of group (contents.Command Clean) ≡ command_row group kind a
@@ -21,7 +22,7 @@ module _ (group kind a : ℕ) where
     unfolding command_row
     row_compact e = rw e
 
-    pub row_no_command : (kind ≡ 2 → ⊥) → Refused 11 ≡ command_row group kind a
+    pub row_no_command : (kind ≡ 2 → ⊥) → Refused CommandUnknown ≡ command_row group kind a
     unfolding command_row
     row_no_command e = rw (ne_eqb _ _ one, ne_eqb _ _ e)
 
@@ -35,7 +36,7 @@ module _ (group kind : ℕ) (key value : Span) where
     unfolding key_row
     row_delete e = rw e
 
-    pub row_no_op : (kind ≡ 2 → ⊥) → Refused 12 ≡ key_row group kind key value
+    pub row_no_op : (kind ≡ 2 → ⊥) → Refused OpUnknown ≡ key_row group kind key value
     unfolding key_row
     row_no_op e = rw (ne_eqb _ _ one, ne_eqb _ _ e)
 
@@ -55,6 +56,6 @@ module _ (group item-type kind a b c d : ℕ) where
       unfolding row_item
       row_key e g h f = rw (e, ← g, ← h) f
 
-      pub row_unknown : (item-type ≡ 3 → ⊥) → Refused 10 ≡ row_item group item-type kind a b c d
+      pub row_unknown : (item-type ≡ 3 → ⊥) → Refused ItemTypeUnknown ≡ row_item group item-type kind a b c d
       unfolding row_item
       row_unknown e = rw (ne_eqb _ _ one, ne_eqb _ _ two, ne_eqb _ _ e)

@@ -13,6 +13,7 @@ use Rattle.log_item.specs.declared.LogItem.{LogItem}
 use Rattle.log_item.specs.declared.EntryIndex.{EntryIndex}
 use Rattle.item_row.specs.declared.ItemRowRead.{ItemRowRead}
 use Rattle.item_row.specs.declared.ItemRowRead.TheVariants.{Item, Refused}
+use Rattle.refusal.specs.declared.Reason.TheVariants.{CommandUnknown, ItemTypeUnknown, OpUnknown}
 
 -- how many rows of items, or of entries, lent words hold
 abbrev pub item_row_count : List ℕ → ℕ
@@ -34,14 +35,14 @@ unfoldable pub command_row : ℕ → ℕ → ℕ → ItemRowRead
 command_row group kind a =
     cond (eqb kind 1) (item_of group (contents.Command Clean))
     (cond (eqb kind 2) (item_of group (contents.Command (Compact a)))
-    (Refused 11))
+    (Refused CommandUnknown))
 
 -- 1 put (key, content) or 2 delete (key)
 unfoldable pub key_row : ℕ → ℕ → Span → Span → ItemRowRead
 key_row group kind key value =
     cond (eqb kind 1) (item_of group (contents.Kv (record { key = key; op = Put value })))
     (cond (eqb kind 2) (item_of group (contents.Kv (record { key = key; op = Del })))
-    (Refused 12))
+    (Refused OpUnknown))
 
 -- the item of seven words; those that it has no use for do not matter
 unfoldable pub row_item : ℕ → ℕ → ℕ → ℕ → ℕ → ℕ → ℕ → ItemRowRead
@@ -49,7 +50,7 @@ row_item group item-type kind a b c d =
     cond (eqb item-type 1) (item_of group (contents.EntryIndexes (record { count = a; first_index = b })))
     (cond (eqb item-type 2) (command_row group kind a)
     (cond (eqb item-type 3) (key_row group kind (span_of a b) (span_of c d))
-    (Refused 10)))
+    (Refused ItemTypeUnknown)))
 
 -- the item of row i
 unfoldable pub item_of_row : List ℕ → ℕ → ItemRowRead

@@ -25,6 +25,7 @@ use Rattle.list_writer.specs.Refusing.{Verdict, fine, refused, unless_item, item
 use Rattle.list_writer.specs.Answers.{measured, measured_of, measure_of}
 use Rattle.list_writer.proofs.Heads.{head_fine, unless_refused, else_fine}
 use Rattle.list_writer.proofs.Rest.{rest_bytes, bytes_row, bytes_item, bytes_end, bytes_start, rest_verdict, told_row, told_item, told_end, told_start}
+use Rattle.refusal.specs.declared.Reason.TheVariants.{TailTooLarge}
 
 -- A number up to the largest tail has at most ten bytes.
 pub number_short : (n : ℕ) → n ≤ 4294967295 → length (shortest n) ≤ 10
@@ -145,7 +146,7 @@ module _ (s : List ℕ) (checked : Bool) (xs : List LogItem) (ns : List ℕ) whe
           told = sym (rw (le-ltb 4294967295 (t + r) l) at v) ∙ m.told;
         }
 
-    pub measuring_row_refused : (r : ℕ) → 0 < tails → get_or ns j 0 ≡ r → 4294967295 < t + r → items_verdict s checked xs ns 0 0 0 ≡ refused 16 (i - 1)
+    pub measuring_row_refused : (r : ℕ) → 0 < tails → get_or ns j 0 ≡ r → 4294967295 < t + r → items_verdict s checked xs ns 0 0 0 ≡ refused TailTooLarge (i - 1)
     measuring_row_refused r h e l =
         let v = rw e at (told_row s xs ns checked i j tails t h m.room) in
         sym m.told ∙ (rw (lt-ltb 4294967295 (t + r) l) at v)

@@ -21,6 +21,7 @@ use Rattle.log_item.proofs.Tails.{sum_rises}
 use Rattle.log_item.specs.Blank.{blank_item}
 use Rattle.list_writer.specs.Bytes.{items_bytes}
 use Rattle.list_writer.specs.Refusing.{Verdict, fine, refused, unless_item, items_verdict}
+use Rattle.refusal.specs.declared.Reason.TheVariants.{TailTooLarge}
 
 one_more : (n : ℕ) → 0 < n → suc (n - 1) ≡ n
 one_more n h = omega arith
@@ -36,7 +37,7 @@ unless_first : (a b k : ℕ) (v : Verdict) → unless_item (first_of a b) k v �
 unless_first zero b k v = refl
 unless_first (suc a) b k v = let some : suc a ≡ 0 → ⊥ = λ z. omega arith in rw (ne_eqb (suc a) 0 some)
 
-unless_cond : (c : Bool) (k : ℕ) (v : Verdict) → unless_item (cond (not c) 0 16) k v ≡ cond c (refused 16 k) v
+unless_cond : (c : Bool) (k : ℕ) (v : Verdict) → unless_item (cond (not c) 0 16) k v ≡ cond c (refused TailTooLarge k) v
 unless_cond true k v = refl
 unless_cond false k v = refl
 
@@ -85,14 +86,14 @@ module _ (s : List ℕ) (xs : List LogItem) (ns : List ℕ) where
     unfoldable pub rest_verdict : ℕ → ℕ → ℕ → ℕ → Verdict
     rest_verdict i j tails t =
         let u = sum_of t (take tails (drop j ns)) in
-        cond (ltb 4294967295 u) (refused 16 (i - 1)) (items_verdict s checked (drop i xs) (drop (j + tails) ns) (j + tails) i u)
+        cond (ltb 4294967295 u) (refused TailTooLarge (i - 1)) (items_verdict s checked (drop i xs) (drop (j + tails) ns) (j + tails) i u)
 
     -- A tail above the ceiling is a 16, and so is the last of the item's.
-    over : (i j tails t : ℕ) → rest_verdict i j tails t ≡ cond (ltb 4294967295 t) (refused 16 (i - 1)) (rest_verdict i j tails t)
+    over : (i j tails t : ℕ) → rest_verdict i j tails t ≡ cond (ltb 4294967295 t) (refused TailTooLarge (i - 1)) (rest_verdict i j tails t)
     unfolding rest_verdict
     over i j tails t = go (ltb 4294967295 t) refl
       where
-        go : (b : Bool) → ltb 4294967295 t ≡ b → rest_verdict i j tails t ≡ cond b (refused 16 (i - 1)) (rest_verdict i j tails t)
+        go : (b : Bool) → ltb 4294967295 t ≡ b → rest_verdict i j tails t ≡ cond b (refused TailTooLarge (i - 1)) (rest_verdict i j tails t)
         go true e = rw (lt-ltb 4294967295 (sum_of t (take tails (drop j ns))) (omega (arith, ltb-true 4294967295 t e, sum_rises t (take tails (drop j ns)))))
         go false e = refl
 
@@ -101,11 +102,11 @@ module _ (s : List ℕ) (xs : List LogItem) (ns : List ℕ) where
     told_suc i j n t h =
         let e : j + suc n ≡ j + 1 + n = omega arith in
         let w : ℕ = sum_of (t + get_or ns j 0) (take n (drop (j + 1) ns)) in
-        ap (λ (l : List ℕ). cond (ltb 4294967295 (sum_of t l)) (refused 16 (i - 1)) (items_verdict s checked (drop i xs) (drop (j + suc n) ns) (j + suc n) i (sum_of t l))) (next_length ns j n h)
-        ∙ ap (λ (m : ℕ). cond (ltb 4294967295 w) (refused 16 (i - 1)) (items_verdict s checked (drop i xs) (drop m ns) m i w)) e
+        ap (λ (l : List ℕ). cond (ltb 4294967295 (sum_of t l)) (refused TailTooLarge (i - 1)) (items_verdict s checked (drop i xs) (drop (j + suc n) ns) (j + suc n) i (sum_of t l))) (next_length ns j n h)
+        ∙ ap (λ (m : ℕ). cond (ltb 4294967295 w) (refused TailTooLarge (i - 1)) (items_verdict s checked (drop i xs) (drop m ns) m i w)) e
 
     pub told_row : (i j tails t : ℕ) → 0 < tails → j + tails ≤ length ns
-        → rest_verdict i j tails t ≡ cond (ltb 4294967295 (t + get_or ns j 0)) (refused 16 (i - 1)) (rest_verdict i (j + 1) (tails - 1) (t + get_or ns j 0))
+        → rest_verdict i j tails t ≡ cond (ltb 4294967295 (t + get_or ns j 0)) (refused TailTooLarge (i - 1)) (rest_verdict i (j + 1) (tails - 1) (t + get_or ns j 0))
     told_row i j tails t h r =
         ap (λ (n : ℕ). rest_verdict i j n t) (sym (one_more tails h)) ∙ told_suc i j (tails - 1) t (omega arith) ∙ over i (j + 1) (tails - 1) (t + get_or ns j 0)
 
@@ -134,8 +135,8 @@ module _ (s : List ℕ) (xs : List LogItem) (ns : List ℕ) where
         ∙ unless_first (content_refusal s checked j (j + length (drop j ns)) x.content) (cond (not b) 0 16) i rest
         ∙ ap (λ (m : ℕ). unless_item (content_refusal s checked j m x.content) i (unless_item (cond (not b) 0 16) i rest)) q
         ∙ ap (unless_item (content_refusal s checked j (length ns) x.content) i) (unless_cond b i rest)
-        ∙ ap (λ (l : List ℕ). unless_item (content_refusal s checked j (length ns) x.content) i (cond b (refused 16 i) (items_verdict s checked (drop (i + 1) xs) l (j + n) (i + 1) u))) (drop-drop n j ns)
-        ∙ ap (λ (m : ℕ). unless_item (content_refusal s checked j (length ns) x.content) i (cond b (refused 16 m) (items_verdict s checked (drop (i + 1) xs) (drop (j + n) ns) (j + n) (i + 1) u))) k
+        ∙ ap (λ (l : List ℕ). unless_item (content_refusal s checked j (length ns) x.content) i (cond b (refused TailTooLarge i) (items_verdict s checked (drop (i + 1) xs) l (j + n) (i + 1) u))) (drop-drop n j ns)
+        ∙ ap (λ (m : ℕ). unless_item (content_refusal s checked j (length ns) x.content) i (cond b (refused TailTooLarge m) (items_verdict s checked (drop (i + 1) xs) (drop (j + n) ns) (j + n) (i + 1) u))) k
 
     pub told_end : (i j t : ℕ) → t ≤ 4294967295 → length xs ≤ i → rest_verdict i j 0 t ≡ fine t
     unfolding items_verdict

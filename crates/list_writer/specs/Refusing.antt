@@ -6,6 +6,7 @@ use Rattle.log_item.specs.Entries.{entries_of}
 use Rattle.log_item.specs.declared.LogItem.{LogItem}
 use Rattle.log_item.specs.Refusing.{content_refusal}
 use Rattle.log_item.specs.Written.{sum_of, row_lengths, tail_refusal}
+use Rattle.refusal.specs.declared.Reason.TheVariants.{ItemsTooMany}
 
 -- the entry total; or a refusal's number and its item
 pub data Verdict : Type 0 where
@@ -27,5 +28,5 @@ items_verdict s checked (x ∷ xs) lengths used k t =
 -- 9, then the items
 unfoldable pub list_verdict : List ℕ → Bool → List LogItem → List ℕ → Verdict
 list_verdict s checked xs lengths = do
-  leb (length xs) 256 else refused 9 0
+  leb (length xs) 256 else refused ItemsTooMany 0
   items_verdict s checked xs lengths 0 0 0

@@ -21,6 +21,7 @@ use Rattle.log_batch.specs.Answers.{check_of, plain_body}
 use Rattle.log_item.proofs.Holds.{Holds, holds, later, at_most, of_got}
 use Rattle.log_item.proofs.Counted.{pass_one}
 use Rattle.log_batch.proofs.Bodies.{parts}
+use Rattle.refusal.specs.declared.Reason.TheVariants.{ItemsTooMany}
 
 -- ---- the item count
 
@@ -30,7 +31,7 @@ module _ (form : Form) (s : List ℕ) where
   count_broken e = rw e
 
   module _ {n q : ℕ} (e : number form s 0 ≡ got n q) where
-    pub items_many : 256 < n → refused 9 ≡ count form s 0
+    pub items_many : 256 < n → refused ItemsTooMany ≡ count form s 0
     unfolding count
     items_many h = rw (e, lt-leb _ _ h)
 

@@ -18,6 +18,7 @@ use Rattle.log_batch.proofs.Checking.{some_counted, counted_few}
 use Rattle.log_item.specs.Blank.{blank_item, blank_entry}
 use Rattle.log_batch.proofs.FilledRows.{FilledRows, rows_none, rows_set, rows_take}
 use Rattle.log_batch.proofs.Coming.{prepend, behind, rest, prepend_none, prepend_item, prepend_row, row_suc, bad_suc, rest_zero, item_suc, no_item}
+use Rattle.refusal.specs.declared.Reason.TheVariants.{NumberBroken}
 
 -- k items are wanted, i are in the table xs, and j rows in the table rows; n tails are left of the item before, the first of them with the
 -- index and the total t before it. What is in the tables and what is still to come from p on are the whole answer.
@@ -36,7 +37,7 @@ pub record Filling (s : List ℕ) (k : ℕ) (xs : List LogItem) (rows : List Ent
 -- ---- the count
 
 -- the keys 1 and 2 are those of the numbers that are broken
-pub not_done : (r : NumberRead) → ((n q : ℕ) → r ≡ Done n q → ⊥) → number_got r ≡ refused 7
+pub not_done : (r : NumberRead) → ((n q : ℕ) → r ≡ Done n q → ⊥) → number_got r ≡ refused NumberBroken
 not_done (Done k q) h = absurd (h k q refl)
 not_done Eof h = refl
 not_done Overflow h = refl

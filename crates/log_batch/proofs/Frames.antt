@@ -20,21 +20,22 @@ use Rattle.log_batch.specs.Table.{empty_table, table_of}
 use Rattle.log_batch.specs.declared.LogBatch.{LogBatch}
 use Rattle.log_batch.specs.Header.{frame, header}
 use Rattle.log_batch.specs.Batch.{block_of, body_of, front_batch, read_batch}
+use Rattle.refusal.specs.declared.Reason.TheVariants.{BatchShort, Compressed, CompressionUnknown, HeaderShort, OffsetAboveLength, OffsetBelowHeader}
 
 -- ---- the two words
 
 module _ (first second : ℕ) where
-  pub frame_type : 1 < first % 256 → refused 2 ≡ frame first second 0
+  pub frame_type : 1 < first % 256 → refused CompressionUnknown ≡ frame first second 0
   unfolding frame
   frame_type h = rw (lt-leb _ _ h)
 
   module _ (known : first % 256 ≤ 1) where
-    pub frame_above : first / 256 < second → refused 3 ≡ frame first second 0
+    pub frame_above : first / 256 < second → refused OffsetAboveLength ≡ frame first second 0
     unfolding frame
     frame_above h = rw (le-leb _ _ known, lt-leb _ _ h)
 
     module _ (inside : second ≤ first / 256) where
-      pub frame_below : second < 16 → refused 4 ≡ frame first second 0
+      pub frame_below : second < 16 → refused OffsetBelowHeader ≡ frame first second 0
       unfolding frame
       frame_below h = rw (le-leb _ _ known, le-leb _ _ inside, lt-leb _ _ h)
 
@@ -45,15 +46,15 @@ module _ (first second : ℕ) where
 -- ---- the header
 
 module _ (s : List ℕ) where
-  header_short : length s < 16 → refused 1 ≡ header s 0
+  header_short : length s < 16 → refused HeaderShort ≡ header s 0
   unfolding header
   header_short h = rw (lt-leb _ _ h)
 
-  pub header_none : read_u64 s 0 ≡ Eof → refused 1 ≡ header s 0
+  pub header_none : read_u64 s 0 ≡ Eof → refused HeaderShort ≡ header s 0
   header_none e = header_short (omega (arith, u64_ended s 0 e))
 
   module _ {a q : ℕ} (e : read_u64 s 0 ≡ Done a q) where
-    pub header_half : read_u64 s q ≡ Eof → refused 1 ≡ header s 0
+    pub header_half : read_u64 s q ≡ Eof → refused HeaderShort ≡ header s 0
     header_half f = header_short (omega (arith, (u64_known s 0 e).2, u64_ended s q f))
 
     pub header_whole : {b z : ℕ} → read_u64 s q ≡ Done b z → frame a b 0 ≡ header s 0
@@ -99,12 +100,12 @@ module _ (s : List ℕ) where
   front_refused e = rw e
 
   module _ {h : LogBatch} {q : ℕ} (e : header s 0 ≡ got h q) where
-    pub front_short : length s < h.len → refused 18 ≡ front_batch s 0
+    pub front_short : length s < h.len → refused BatchShort ≡ front_batch s 0
     unfolding front_batch
     front_short k = rw (e, lt-leb _ _ k)
 
     module _ (there : h.len ≤ length s) where
-      pub front_compressed : (h.compression ≡ 0 → ⊥) → refused 19 ≡ front_batch s 0
+      pub front_compressed : (h.compression ≡ 0 → ⊥) → refused Compressed ≡ front_batch s 0
       unfolding front_batch
       front_compressed k = rw (e, le-leb _ _ there, ne_eqb _ _ k)
 

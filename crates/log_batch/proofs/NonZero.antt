@@ -20,6 +20,7 @@ use Rattle.log_batch.specs.Header.{frame, header}
 use Rattle.log_batch.specs.Batch.{block_of, front_batch}
 use Rattle.log_batch.proofs.Accepts.{of_rejected}
 use Rattle.log_batch.proofs.Listing.{sound}
+use Rattle.refusal.specs.declared.Reason.TheVariants.{BlockDiffers}
 
 -- ---- a body
 
@@ -63,7 +64,7 @@ front_some s e z = let some = of_refused (front_says s 0) e in omega arith
 -- A table whose number is 0 is that of an accepted answer with the entry total that is wanted, where the answer's own refusals have a number.
 module _ (body block : Span) (n : ℕ) where
   same : (xs : List LogItem) (rows : List EntryIndex) (u q : ℕ) (b : Bool) → eqb u n ≡ b
-      → (table_of body block (cond b (accepted xs rows u q) (rejected 20 0))).refusal.number ≡ 0 → u ≡ n
+      → (table_of body block (cond b (accepted xs rows u q) (rejected BlockDiffers 0))).refusal.number ≡ 0 → u ≡ n
   unfolding table_of
   same xs rows u q true e z = eqb-true u n e
   same xs rows u q false e z = absurd (omega (arith, z))

@@ -48,6 +48,7 @@ use Rattle.log_batch.specs.Writing.{listed, BodyWritten, items_at, rows_at, body
 use Rattle.log_batch.proofs.Listing.{spells_as, spells_some}
 use Rattle.log_batch.proofs.Bodies.{complete_body}
 use Rattle.log_batch.proofs.WrittenBytes.{AllBytes, bytes_all, shortest_bytes, item_bytes_lem}
+use Rattle.refusal.specs.declared.Reason.TheVariants.{ChecksumWrong}
 
 -- ---- an item that is not refused
 
@@ -214,7 +215,7 @@ module _ (s : List ℕ) (checked : Bool) (xs : List LogItem) (ns : List ℕ) (to
         })
 
     -- A written body, read under a second signature, is refused with 6 exactly when the two signatures differ.
-    pub other_signature : (a b : ℕ) → a < 2 ^ 32 → (read_body (body_bytes s xs ns a) b ≡ rejected 6 0) ↔ (a ≡ b → ⊥)
+    pub other_signature : (a b : ℕ) → a < 2 ^ 32 → (read_body (body_bytes s xs ns a) b ≡ rejected ChecksumWrong 0) ↔ (a ≡ b → ⊥)
     other_signature a b small =
         let some = spells_some Plain written_spelled.0 in (
           λ e same. clash (sym (read_back a small) ∙ ap (read_body (body_bytes s xs ns a)) same ∙ e),

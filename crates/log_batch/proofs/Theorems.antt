@@ -54,6 +54,7 @@ use Rattle.list_writer.specs.declared.Measured.{Measured}
 use Rattle.log_batch.proofs.Written.{list_sized, own_sized, whole, body_stands}
 use Rattle.log_batch.proofs.Again.{content_size, block_again, body_again, content_again, front_again}
 use Rattle.log_batch.proofs.Whole.{body_read}
+use Rattle.refusal.specs.declared.Reason.TheVariants.{ChecksumWrong}
 
 -- ---- bodies read
 
@@ -235,7 +236,7 @@ module _ (checked : Bool) (t : LogItemBatch) (s : List ℕ) (signature : ℕ) (o
     body_read_back = buffer_read_back checked t s signature out small bytes key w z
 
     -- A written body, read under a second signature, is refused with 6 exactly when the two signatures, none being 0, differ.
-    pub second_signature : (b : ℕ) → (read_body (take r.length later) b ≡ rejected 6 0) ↔ (signature ≡ b → ⊥)
+    pub second_signature : (b : ℕ) → (read_body (take r.length later) b ≡ rejected ChecksumWrong 0) ↔ (signature ≡ b → ⊥)
     second_signature b =
         let k = buffer_written checked t s signature out w z in
         rw k.1 (other_signature s checked (listed t) (table_lengths t) k.0 (table_small t small) k.2 bytes signature b key)
@@ -305,7 +306,7 @@ module _ (s : List ℕ) (checked : Bool) (xs : List LogItem) (ns : List ℕ) (sm
     {m : Measured} (own : (m.length ≡ 0 → ⊥) → m ≡ measure_of s checked xs ns) {out : List ℕ} {r : Encoded} {later : List ℕ} (h : r.length ≡ 0 → ⊥) where
   -- A body, at the place where it was written.
   pub body_under_another : (at : ℕ) → MeasuredWritten m (body_bytes s xs ns signature) out at r later
-      → (read_body (take r.length (drop at later)) b ≡ rejected 6 0) ↔ (signature ≡ b → ⊥)
+      → (read_body (take r.length (drop at later)) b ≡ rejected ChecksumWrong 0) ↔ (signature ≡ b → ⊥)
   body_under_another at w =
       let k = body_stands (own_sized s checked xs ns signature own) w h in
       let fine_list = verdict_of s checked xs ns (rw (own k.0) at k.0) in

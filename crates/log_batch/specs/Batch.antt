@@ -13,6 +13,7 @@ use Rattle.log_batch.specs.Seal.{block_check, sealed_length}
 use Rattle.log_batch.specs.Table.{table_of}
 use Rattle.log_batch.specs.declared.LogBatch.{LogBatch}
 use Rattle.log_batch.specs.Header.{header}
+use Rattle.refusal.specs.declared.Reason.TheVariants.{BatchShort, Compressed}
 
 -- the block, from byte 16 to the offset, and the body, from there to the length
 abbrev pub block_of : LogBatch → List ℕ → List ℕ
@@ -25,8 +26,8 @@ body_of h s = take (h.len - h.offset) (drop h.offset s)
 unfoldable pub front_batch : List ℕ → Reading LogBatch
 front_batch s = do
   h ← header s
-  nat_le h.len (length s) else 18
-  (h.compression == 0) else 19
+  nat_le h.len (length s) else BatchShort
+  (h.compression == 0) else Compressed
   passes (block_check (block_of h s))
   done h
 

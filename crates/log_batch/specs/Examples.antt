@@ -9,6 +9,7 @@ use Rattle.log_item.specs.declared.Form.TheVariants.{Any}
 use Rattle.log_item.specs.declared.Command.TheVariants.{Compact}
 use Rattle.log_item.specs.declared.Op.TheVariants.{Put}
 use Rattle.log_item.specs.declared.LogItemContent.TheVariants as contents
+use Rattle.refusal.specs.declared.Reason.TheVariants.{NumberBroken, OpUnknown, TailFalls, TailTooLarge}
 
 pub data Example : Type 0 where
   -- the number is written as the bytes, and these read as it
@@ -34,8 +35,8 @@ table =
     ∷ is 300 (0xAC ∷ 0x02 ∷ [])
     ∷ is (2 ^ 64 - 1) (0xFF ∷ 0xFF ∷ 0xFF ∷ 0xFF ∷ 0xFF ∷ 0xFF ∷ 0xFF ∷ 0xFF ∷ 0xFF ∷ 0x01 ∷ [])
     ∷ reads (0x80 ∷ 0x00 ∷ []) (got 0 2)
-    ∷ reads (0xFF ∷ 0xFF ∷ 0xFF ∷ 0xFF ∷ 0xFF ∷ 0xFF ∷ 0xFF ∷ 0xFF ∷ 0xFF ∷ 0x02 ∷ []) (refused 7)
-    ∷ reads (0x80 ∷ []) (refused 7)
+    ∷ reads (0xFF ∷ 0xFF ∷ 0xFF ∷ 0xFF ∷ 0xFF ∷ 0xFF ∷ 0xFF ∷ 0xFF ∷ 0xFF ∷ 0x02 ∷ []) (refused NumberBroken)
+    ∷ reads (0x80 ∷ []) (refused NumberBroken)
     ∷ item (0x05 ∷ 0x02 ∷ 0x02 ∷ 0xAC ∷ 0x02 ∷ [])
     (got (record { item = record { raft_group_id = 5; content = contents.Command (Compact 300) }; rows = []; total = 0 }) 5)
     ∷ item (0x02 ∷ 0x03 ∷ 0x01 ∷ 0x01 ∷ 0x6B ∷ 0x01 ∷ 0x76 ∷ [])
@@ -44,7 +45,7 @@ table =
       rows = [];
       total = 0;
     }) 7)
-    ∷ item (0x02 ∷ 0x03 ∷ 0x00 ∷ 0x01 ∷ 0x6B ∷ 0x01 ∷ 0x76 ∷ []) (refused 12)
+    ∷ item (0x02 ∷ 0x03 ∷ 0x00 ∷ 0x01 ∷ 0x6B ∷ 0x01 ∷ 0x76 ∷ []) (refused OpUnknown)
     ∷ item (0x03 ∷ 0x01 ∷ 0x03 ∷ 0x0A ∷ 0x04 ∷ 0x04 ∷ 0x0A ∷ [])
     (got (record {
       item = record { raft_group_id = 3; content = contents.EntryIndexes (record { count = 3; first_index = 10 }) };
@@ -55,12 +56,12 @@ table =
           ∷ [];
       total = 10;
     }) 7)
-    ∷ item (0x03 ∷ 0x01 ∷ 0x02 ∷ 0x0A ∷ 0x04 ∷ 0x03 ∷ []) (refused 15)
+    ∷ item (0x03 ∷ 0x01 ∷ 0x02 ∷ 0x0A ∷ 0x04 ∷ 0x03 ∷ []) (refused TailFalls)
     ∷ item (0x03 ∷ 0x01 ∷ 0x01 ∷ 0x0A ∷ 0xFF ∷ 0xFF ∷ 0xFF ∷ 0xFF ∷ 0x0F ∷ [])
     (got (record {
       item = record { raft_group_id = 3; content = contents.EntryIndexes (record { count = 1; first_index = 10 }) };
       rows = record { index = 10; entry_offset = 0; entry_len = 4294967295 } ∷ [];
       total = 4294967295;
     }) 9)
-    ∷ item (0x03 ∷ 0x01 ∷ 0x01 ∷ 0x0A ∷ 0x80 ∷ 0x80 ∷ 0x80 ∷ 0x80 ∷ 0x10 ∷ []) (refused 16)
+    ∷ item (0x03 ∷ 0x01 ∷ 0x01 ∷ 0x0A ∷ 0x80 ∷ 0x80 ∷ 0x80 ∷ 0x80 ∷ 0x10 ∷ []) (refused TailTooLarge)
     ∷ []

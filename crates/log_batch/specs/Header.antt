@@ -6,18 +6,19 @@ use Rattle.log_item.specs.Got.{Got, got, refused, Reading, upto, ◌>>◌, ◌el
 use Rattle.log_batch.specs.declared.LogBatch.{LogBatch}
 use Rattle.log_batch.specs.declared.HeaderRead.{HeaderRead}
 use Rattle.log_batch.specs.declared.HeaderRead.TheVariants as read
+use Rattle.refusal.specs.declared.Reason.TheVariants.{CompressionUnknown, HeaderShort, OffsetAboveLength, OffsetBelowHeader}
 
 -- what the two words state
 unfoldable pub frame : ℕ → ℕ → Reading LogBatch
 frame first second = do
-  nat_le (first % 256) 1 else 2
-  nat_le second (first / 256) else 3
-  nat_le 16 second else 4
+  nat_le (first % 256) 1 else CompressionUnknown
+  nat_le second (first / 256) else OffsetAboveLength
+  nat_le 16 second else OffsetBelowHeader
   upto 16 (record { offset = second; len = first / 256; compression = first % 256 })
 
 unfoldable pub header : List ℕ → Reading LogBatch
 header s = do
-  nat_le 16 (length s) else 1
+  nat_le 16 (length s) else HeaderShort
   frame (big_endian (take 8 s)) (big_endian (take 8 (drop 8 s)))
 
 abbrev pub header_got : HeaderRead → Got LogBatch

@@ -7,6 +7,7 @@ use Rattle.log_item.specs.Pieces.{number}
 use Rattle.log_item.specs.declared.Form.{Form}
 use Rattle.log_item.specs.declared.LogItem.{LogItem}
 use Rattle.log_item.specs.declared.EntryIndex.{EntryIndex}
+use Rattle.refusal.specs.declared.Reason.TheVariants.{ItemsTooMany}
 
 -- items, their rows, the entry total and the place after the last item; or a refusal's number and its item
 pub data Answer : Type 0 where
@@ -37,7 +38,7 @@ module _ (form : Form) (s : List ℕ) where
   unfoldable pub count : Reading ℕ
   count = do
     k ← number form s
-    nat_le k 256 else 9
+    nat_le k 256 else ItemsTooMany
     done k
 
   unfoldable pub read_items : Answer

@@ -4,6 +4,7 @@ use Rattle.std.specs.Prelude.{ℕ, ◌-◌, cond, List, length, take, drop, ◌=
 use Rattle.refusal.specs.First.{◌else◌, ◌>>◌}
 use Rattle.words.specs.Word.{little_endian}
 use Rattle.crc.specs.Crc.{crc_of}
+use Rattle.refusal.specs.declared.Reason.TheVariants.{ChecksumWrong, NoContent}
 
 -- how much stands before the last four bytes, what that is, and the word that these are
 abbrev pub sealed_length : List ℕ → ℕ
@@ -18,8 +19,8 @@ footer b = little_endian (drop (sealed_length b) b)
 -- 5 where there are four bytes or fewer, 6 where the checksum is wrong, else 0
 unfoldable pub seal_check : List ℕ → ℕ → ℕ
 seal_check b signature = do
-  nat_lt 4 (length b) else 5
-  (footer b == bit_xor (crc_of (sealed_part b)) signature) else 6
+  nat_lt 4 (length b) else Err NoContent
+  (footer b == bit_xor (crc_of (sealed_part b)) signature) else Err ChecksumWrong
   0
 
 -- a block: empty, or content and its unsigned checksum

@@ -8,6 +8,7 @@ use Rattle.pipe_log.specs.declared.LogQueue.{LogQueue}
 use Rattle.pipe_log.specs.declared.LogQueue.TheVariants.{Append, Rewrite}
 use Rattle.pipe_log.specs.declared.Location.{Location}
 use Rattle.log_batch.specs.Seal.{block_check, sealed_length}
+use Rattle.refusal.specs.declared.Reason.TheVariants.{BlockDiffers, SpanOutside}
 
 -- the block that the queue names
 abbrev pub named : LogQueue → Bor (List ℕ) → Bor (List ℕ) → Bor (List ℕ)
@@ -17,9 +18,9 @@ named Rewrite append rewrite = rewrite
 -- the block is to have the length `long`; the entry stands in its content
 unfoldable pub entry_check : ℕ → ℕ → ℕ → List ℕ → ℕ
 entry_check long offset len block = do
-  (length block == long) else 20
+  (length block == long) else Err BlockDiffers
   passes (block_check block)
-  nat_le (offset + len) (sealed_length block) else 13
+  nat_le (offset + len) (sealed_length block) else Err SpanOutside
   0
 
 abbrev pub view_check : Location → List ℕ → ℕ

@@ -15,6 +15,7 @@ use Rattle.log_item.specs.Pieces.{byte, number, span}
 use Rattle.log_item.specs.declared.Form.{Form}
 use Rattle.log_item.specs.declared.Form.TheVariants.{Any, Plain}
 use Rattle.log_item.proofs.NumberGot.{number_inside}
+use Rattle.refusal.specs.declared.Reason.TheVariants.{NotShortest, NumberBroken, SpanOutside}
 
 -- What a call's result r, known to be d, says of what the call promised.
 pub learnt : {R A : Type 0} (f : R → A) {r d : R} {m : A} → f r ≡ m → r ≡ d → m ≡ f d
@@ -26,7 +27,7 @@ pub byte_in : (s : List ℕ) (p b : ℕ) → p < length s → b ≡ get_or s p 0
 unfolding byte
 byte_in s p b h e = rw (lt-ltb _ _ h, e)
 
-pub byte_out : (s : List ℕ) (p : ℕ) → length s ≤ p → refused 7 ≡ byte s p
+pub byte_out : (s : List ℕ) (p : ℕ) → length s ≤ p → refused NumberBroken ≡ byte s p
 unfolding byte
 byte_out s p h = rw (le-ltb _ _ h)
 
@@ -50,14 +51,14 @@ module _ {form : Form} (s : List ℕ) (p : ℕ) where
           let same : q ≡ p + length (shortest n) = omega arith in
           rw (f, e, eq-eqb _ _ same)
 
-      pub number_padded : (q - p ≡ l → ⊥) → refused 8 ≡ number form s p
+      pub number_padded : (q - p ≡ l → ⊥) → refused NotShortest ≡ number form s p
       unfolding number
       number_padded d =
           let m = number_inside Any s p e in
           let other : q ≡ p + length (shortest n) → ⊥ = λ same. d (omega arith) in
           rw (f, e, ne_eqb _ _ other)
 
-pub number_broken : (s : List ℕ) (p : ℕ) {r : NumberRead} → read_number s p ≡ r → number_got r ≡ refused 7 → refused 7 ≡ number Any s p
+pub number_broken : (s : List ℕ) (p : ℕ) {r : NumberRead} → read_number s p ≡ r → number_got r ≡ refused NumberBroken → refused NumberBroken ≡ number Any s p
 unfolding number
 number_broken s p e k = rw (e, k)
 
@@ -74,7 +75,7 @@ module _ (form : Form) (s : List ℕ) (p : ℕ) where
   unfolding span
   span_in e h = rw (e, le-leb _ _ h)
 
-  pub span_outside : {n q : ℕ} → number form s p ≡ got n q → length s < q + n → refused 13 ≡ span form s p
+  pub span_outside : {n q : ℕ} → number form s p ≡ got n q → length s < q + n → refused SpanOutside ≡ span form s p
   unfolding span
   span_outside e h = rw (e, lt-leb _ _ h)
 

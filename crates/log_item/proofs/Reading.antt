@@ -18,6 +18,7 @@ use Rattle.log_item.specs.declared.KeyValue.{KeyValue}
 use Rattle.log_item.specs.declared.EntryIndexes.{EntryIndexes}
 use Rattle.log_item.specs.declared.LogItemContent.{LogItemContent}
 use Rattle.log_item.specs.declared.LogItemContent.TheVariants as contents
+use Rattle.refusal.specs.declared.Reason.TheVariants.{CommandUnknown, EntriesTooMany, IndexTooLarge, ItemTypeUnknown, OpUnknown, TailFalls, TailTooLarge}
 
 module _ (form : Form) (s : List ℕ) (p : ℕ) where
   -- ---- a command
@@ -39,7 +40,7 @@ module _ (form : Form) (s : List ℕ) (p : ℕ) where
     unfolding command
     command_short k f = rw (e, k, f)
 
-    pub command_unknown : (b ≡ 1 → ⊥) → (b ≡ 2 → ⊥) → refused 11 ≡ command form s p
+    pub command_unknown : (b ≡ 1 → ⊥) → (b ≡ 2 → ⊥) → refused CommandUnknown ≡ command form s p
     unfolding command
     command_unknown k l = rw (e, ne_eqb _ _ k, ne_eqb _ _ l)
 
@@ -75,7 +76,7 @@ module _ (form : Form) (s : List ℕ) (p : ℕ) where
     unfolding key_value_of
     key_short k f = rw (e, k, f)
 
-    pub key_unknown : (b ≡ 1 → ⊥) → (b ≡ 2 → ⊥) → refused 12 ≡ key_value_of form s p
+    pub key_unknown : (b ≡ 1 → ⊥) → (b ≡ 2 → ⊥) → refused OpUnknown ≡ key_value_of form s p
     unfolding key_value_of
     key_unknown k l = rw (e, ne_eqb _ _ k, ne_eqb _ _ l)
 
@@ -97,7 +98,7 @@ module _ (form : Form) (s : List ℕ) where
   first_done zero p some e h = absurd (some refl)
   first_done (suc m) p some {i} e h = let k : i + m ≤ 18446744073709551615 = omega arith in rw (e, le-leb _ _ k)
 
-  pub first_too_large : (n p : ℕ) → (n ≡ 0 → ⊥) → {i q : ℕ} → number form s p ≡ got i q → 18446744073709551615 < i + (n - 1) → refused 17 ≡ first_index_of form s n p
+  pub first_too_large : (n p : ℕ) → (n ≡ 0 → ⊥) → {i q : ℕ} → number form s p ≡ got i q → 18446744073709551615 < i + (n - 1) → refused IndexTooLarge ≡ first_index_of form s n p
   unfolding first_index_of
   first_too_large zero p some e h = absurd (some refl)
   first_too_large (suc m) p some {i} e h = let k : 18446744073709551615 < i + m = omega arith in rw (e, lt-leb _ _ k)
@@ -110,7 +111,7 @@ module _ (form : Form) (s : List ℕ) where
     count_refused e = rw e
 
     module _ {n q : ℕ} (e : number form s p ≡ got n q) where
-      pub count_many : 1024 < used + n → refused 14 ≡ entry_count_of form s used p
+      pub count_many : 1024 < used + n → refused EntriesTooMany ≡ entry_count_of form s used p
       unfolding entry_count_of
       count_many h = rw (e, lt-leb _ _ h)
 
@@ -134,11 +135,11 @@ module _ (form : Form) (s : List ℕ) where
     tail_refused e = rw e
 
     module _ {w q : ℕ} (e : number form s p ≡ got w q) where
-      pub tail_large : 4294967295 < w → refused 16 ≡ tail form s t p
+      pub tail_large : 4294967295 < w → refused TailTooLarge ≡ tail form s t p
       unfolding tail
       tail_large h = rw (e, lt-leb _ _ h)
 
-      pub tail_falls : w ≤ 4294967295 → w < t → refused 15 ≡ tail form s t p
+      pub tail_falls : w ≤ 4294967295 → w < t → refused TailFalls ≡ tail form s t p
       unfolding tail
       tail_falls h k = rw (e, le-leb _ _ h, lt-leb _ _ k)
 
@@ -177,7 +178,7 @@ module _ (form : Form) (s : List ℕ) where
       unfolding content
       content_no_key e = rw (k, e)
 
-    pub content_unknown : (b ≡ 1 → ⊥) → (b ≡ 2 → ⊥) → (b ≡ 3 → ⊥) → refused 10 ≡ content form s used b p
+    pub content_unknown : (b ≡ 1 → ⊥) → (b ≡ 2 → ⊥) → (b ≡ 3 → ⊥) → refused ItemTypeUnknown ≡ content form s used b p
     unfolding content
     content_unknown k l m = rw (ne_eqb _ _ k, ne_eqb _ _ l, ne_eqb _ _ m)
 

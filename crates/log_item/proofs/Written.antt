@@ -25,6 +25,7 @@ use Rattle.log_item.proofs.Lengths.{head_length_lem}
 use Rattle.log_item.proofs.Refusals.{content_inside_lem, content_allowed}
 use Rattle.refusal.proofs.First.{other_answer, first_fails}
 use Rattle.log_item.proofs.Tails.{size_over, size_fine}
+use Rattle.refusal.specs.declared.Reason.TheVariants.{OutputShort, TailTooLarge}
 
 module _ (s : List ℕ) (checked : Bool) (used rows : ℕ) (x : LogItem) {n : ℕ} (e : n ≡ content_refusal s checked used rows x.content) where
   pub measure_refused : (n ≡ 0 → ⊥) → head.Refused n ≡ measure_item s checked used rows x
@@ -59,7 +60,7 @@ module _ (s : List ℕ) (x : LogItem) (lengths : List ℕ) (t : ℕ) (out : List
       rows_lent = rw p (omega (arith, (content_allowed s false 0 (length lengths) x.content (sym e ∙ z)).lent (omega arith)))
 
       module _ {r : TailsSize} (q : r ≡ tails_size (take d.count lengths) t) where
-        pub encode_over : r ≡ TooLarge → ItemWritten s x lengths t out at (item.Refused 16) out
+        pub encode_over : r ≡ TooLarge → ItemWritten s x lengths t out at (item.Refused TailTooLarge) out
         unfolding item_refusal
         encode_over h = let k = rw rows at (size_over _ t q h) in refuses 16 (rw (← e, z, lt-ltb _ _ k)) (λ k. omega arith)
 
@@ -75,7 +76,7 @@ module _ (s : List ℕ) (x : LogItem) (lengths : List ℕ) (t : ℕ) (out : List
           fit : b ≡ fitted (head_length x + length (tails_bytes (row_lengths x lengths) t))
           fit = omega (arith, sized.1)
 
-          pub encode_short : g ≡ false → ItemWritten s x lengths t out at (item.Refused 21) out
+          pub encode_short : g ≡ false → ItemWritten s x lengths t out at (item.Refused OutputShort) out
           unfolding item_refusal
           encode_short h =
               let k = short_told out (item_bytes s x lengths t) at small long fit w h in

@@ -7,12 +7,13 @@ use Rattle.log_item.specs.Got.{Reading, done, upto, here, ◌>>=◌, ◌>>◌, �
 use Rattle.log_item.specs.declared.Form.{Form}
 use Rattle.log_item.specs.declared.Form.TheVariants.{Any, Plain}
 use Rattle.log_item.specs.declared.Span.{Span}
+use Rattle.refusal.specs.declared.Reason.TheVariants.{NotShortest, NumberBroken, SpanOutside}
 
 -- a one-byte field
 unfoldable pub byte : List ℕ → Reading ℕ
 byte s = do
   p ← here
-  ltb p (length s) else 7
+  ltb p (length s) else NumberBroken
   upto (p + 1) (get_or s p 0)
 
 -- a number, however it is spelled
@@ -26,7 +27,7 @@ number Plain s = do
   p ← here
   n ← any_number s
   q ← here
-  eqb q (p + length (shortest n)) else 8
+  eqb q (p + length (shortest n)) else NotShortest
   done n
 
 -- a length, and as many bytes
@@ -34,5 +35,5 @@ unfoldable pub span : Form → List ℕ → Reading Span
 span form s = do
   n ← number form s
   p ← here
-  leb (p + n) (length s) else 13
+  leb (p + n) (length s) else SpanOutside
   upto (p + n) (record { at = p; len = n })

@@ -32,6 +32,7 @@ use Rattle.log_item.specs.declared.Passed.{Passed}
 use Rattle.log_item.specs.declared.Passed.TheVariants as passed
 use Rattle.log_item.specs.declared.ContentRead.{ContentRead}
 use Rattle.log_item.specs.declared.ContentRead.TheVariants as content_read
+use Rattle.refusal.specs.declared.Reason.TheVariants.{NotShortest}
 
 -- what the readers of spans and contents answer, in the words of the definitions
 abbrev pub span_got : SpanRead → Got Span
@@ -58,7 +59,7 @@ content_got (content_read.Refused r) = refused r
 abbrev pub passed_got : Passed → Got (ℕ × ℕ)
 passed_got (passed.Done q u e) = got (u, e) q
 passed_got (passed.Refused r) = refused r
-passed_got passed.Padded = refused 8
+passed_got passed.Padded = refused NotShortest
 
 -- n tails without their rows: the total after them. The indexes do not matter
 unfoldable pub pass_tails : Form → List ℕ → ℕ → ℕ → Reading ℕ

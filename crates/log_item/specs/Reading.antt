@@ -14,6 +14,7 @@ use Rattle.log_item.specs.declared.LogItemContent.{LogItemContent}
 use Rattle.log_item.specs.declared.LogItemContent.TheVariants as contents
 use Rattle.log_item.specs.declared.LogItem.{LogItem}
 use Rattle.log_item.specs.declared.EntryIndex.{EntryIndex}
+use Rattle.refusal.specs.declared.Reason.TheVariants.{CommandUnknown, EntriesTooMany, IndexTooLarge, ItemTypeUnknown, OpUnknown, TailFalls, TailTooLarge}
 
 -- an item, its rows, and the total after it
 pub record Read : Type 0 where
@@ -26,7 +27,7 @@ module _ (form : Form) (s : List ℕ) where
   unfoldable pub entry_count_of : ℕ → Reading ℕ
   entry_count_of e = do
     n ← number form s
-    leb (e + n) 1024 else 14
+    leb (e + n) 1024 else EntriesTooMany
     done n
 
   -- if n > 0 the first index
@@ -34,7 +35,7 @@ module _ (form : Form) (s : List ℕ) where
   first_index_of zero = done (record { count = 0; first_index = 0 })
   first_index_of (suc n) = do
     i ← number form s
-    leb (i + n) 18446744073709551615 else 17
+    leb (i + n) 18446744073709551615 else IndexTooLarge
     done (record { count = suc n; first_index = i })
 
   -- the count and the first index
@@ -49,7 +50,7 @@ module _ (form : Form) (s : List ℕ) where
     b ← byte s
     cond (eqb b 1) (done Clean)
         (cond (eqb b 2) (do i ← number form s; done (Compact i))
-        (refuse 11))
+        (refuse CommandUnknown))
 
   -- a key and its content
   unfoldable pub put_at : Reading KeyValue
@@ -64,7 +65,7 @@ module _ (form : Form) (s : List ℕ) where
     b ← byte s
     cond (eqb b 1) put_at
         (cond (eqb b 2) (do k ← span form s; done (record { key = k; op = Del }))
-        (refuse 12))
+        (refuse OpUnknown))
 
   -- the content of an item of type b, up to its tails
   unfoldable pub content : ℕ → ℕ → Reading LogItemContent
@@ -72,7 +73,7 @@ module _ (form : Form) (s : List ℕ) where
       cond (eqb b 1) (do x ← entry_indexes e; done (contents.EntryIndexes x))
       (cond (eqb b 2) (do c ← command; done (contents.Command c))
       (cond (eqb b 3) (do k ← key_value_of; done (contents.Kv k))
-      (refuse 10)))
+      (refuse ItemTypeUnknown)))
 
   -- an item up to its tails: group number, type byte, content
   unfoldable pub head : ℕ → Reading LogItem
@@ -86,8 +87,8 @@ module _ (form : Form) (s : List ℕ) where
   unfoldable pub tail : ℕ → Reading ℕ
   tail t = do
     w ← number form s
-    leb w 4294967295 else 16
-    leb t w else 15
+    leb w 4294967295 else TailTooLarge
+    leb t w else TailFalls
     done w
 
   -- n tails from the index i on, with the total t before them: their rows, and the total after them

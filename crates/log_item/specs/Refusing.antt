@@ -9,19 +9,20 @@ use Rattle.log_item.specs.declared.Op.TheVariants.{Put, Del}
 use Rattle.log_item.specs.declared.EntryIndexes.{EntryIndexes}
 use Rattle.log_item.specs.declared.LogItemContent.{LogItemContent}
 use Rattle.log_item.specs.declared.LogItemContent.TheVariants as contents
+use Rattle.refusal.specs.declared.Reason.TheVariants.{EntriesTooMany, IndexTooLarge, KeyInternal, SpanOutside}
 
 -- 17 where n > 0 and the index i + n - 1, that of the last, is above 2^64 - 1
 abbrev pub index_refusal : ℕ → ℕ → ℕ
 index_refusal zero i = 0
 index_refusal (suc n) i = do
-  leb (i + n) 18446744073709551615 else 17
+  leb (i + n) 18446744073709551615 else Err IndexTooLarge
   0
 
 -- 14, 13, 17: items before use `used` of the `rows` that are lent, and this one needs as many as it counts
 unfoldable pub entries_refusal : ℕ → ℕ → EntryIndexes → ℕ
 entries_refusal used rows e = do
-  leb (used + e.count) 1024 else 14
-  leb e.count (rows - used) else 13
+  leb (used + e.count) 1024 else Err EntriesTooMany
+  leb e.count (rows - used) else Err SpanOutside
   index_refusal e.count e.first_index
 
 -- the spans of a key lie in the store
@@ -32,13 +33,13 @@ op_inside s key Del = inside s key
 -- 23 for a put where keys are looked at
 abbrev pub internal_refusal : List ℕ → Bool → Span → Op → ℕ
 internal_refusal s checked key (Put v) = do
-  not (checked && begins (bytes_of s key) prefix) else 23
+  not (checked && begins (bytes_of s key) prefix) else Err KeyInternal
   0
 internal_refusal s checked key Del = 0
 
 unfoldable pub key_refusal : List ℕ → Bool → Span → Op → ℕ
 key_refusal s checked key op = do
-  op_inside s key op else 13
+  op_inside s key op else Err SpanOutside
   internal_refusal s checked key op
 
 unfoldable pub content_refusal : List ℕ → Bool → ℕ → ℕ → LogItemContent → ℕ

@@ -13,6 +13,7 @@ use Rattle.log_item.specs.declared.PartWrote.{PartWrote}
 use Rattle.log_item.specs.declared.PartWrote.TheVariants as part
 use Rattle.log_item.specs.declared.ItemWrote.{ItemWrote}
 use Rattle.log_item.specs.declared.ItemWrote.TheVariants as item
+use Rattle.refusal.specs.declared.Reason.TheVariants.{OutputShort, SpanOutside, TailTooLarge}
 
 -- a length, where all above 4,294,967,295 count as one more than that
 abbrev pub capped : ℕ → ℕ
@@ -29,8 +30,8 @@ measure_item s checked used rows x =
 -- of a piece of an item, whose spans lie in the store or not: 13, then 21 where its n bytes do not fit from the place `at` on among `all`
 unfoldable pub piece_refusal : Bool → ℕ → ℕ → ℕ → ℕ
 piece_refusal lies at n all = do
-  lies else 13
-  leb (at + n) all else 21
+  lies else Err SpanOutside
+  leb (at + n) all else Err OutputShort
   0
 
 -- the place after the piece, or the refusal
@@ -67,7 +68,7 @@ tail_above lengths t = ltb 4294967295 (sum_of t lengths)
 -- 16 where a tail of the item is
 abbrev pub tail_refusal : LogItem → List ℕ → ℕ → ℕ
 tail_refusal x lengths t = do
-  not (tail_above (row_lengths x lengths) t) else 16
+  not (tail_above (row_lengths x lengths) t) else Err TailTooLarge
   0
 
 -- entries 14, 13, 17, 16; a key 13; then 21
@@ -75,7 +76,7 @@ unfoldable pub item_refusal : List ℕ → LogItem → List ℕ → ℕ → List
 item_refusal s x lengths t out at = do
   passes (content_refusal s false 0 (length lengths) x.content)
   passes (tail_refusal x lengths t)
-  leb (at + length (item_bytes s x lengths t)) (length out) else 21
+  leb (at + length (item_bytes s x lengths t)) (length out) else Err OutputShort
   0
 
 -- the place after the item and the total after it, or the refusal

@@ -23,6 +23,8 @@ use entries::{read_count, read_first_index, skip_tails};
 pub use piece::read_number;
 use piece::{read_byte, read_number_in};
 pub use prefix::{INTERNAL_KEY_PREFIX, lies_in, starts_with};
+use refusal::Reason;
+use words::Piece;
 
 // Where bytes stand in the body.
 #[derive(Clone, Copy)]
@@ -36,20 +38,6 @@ pub struct Span {
 pub enum Form {
     Any,
     Plain,
-}
-
-// A number or a byte, and the place after it; or why it is refused.
-#[derive(Clone, Copy)]
-pub enum Field {
-    Done { value: u64, next: usize },
-    Refused(u32),
-}
-
-// A span, and the place after it; or why it is refused.
-#[derive(Clone, Copy)]
-enum SpanRead {
-    Done { span: Span, next: usize },
-    Refused(u32),
 }
 
 // A group's log is cleaned, or compacted up to an index.
@@ -100,100 +88,41 @@ pub struct EntryIndex {
     pub entry_len: u32,
 }
 
-// An item, the place of its tails, the place after it, and the total and the number of entries after it; or why it is refused.
+// An item, the place of its tails, and the total and the number of entries after it.
 #[derive(Clone, Copy)]
-pub enum ItemRead {
-    Done {
-        item: LogItem,
-        tails: usize,
-        next: usize,
-        total: u32,
-        used: usize,
-    },
-    Refused(u32),
+pub struct ItemRead {
+    pub item: LogItem,
+    pub tails: usize,
+    pub total: u32,
+    pub used: usize,
 }
 
-// The place after an item, and the total and the number of entries after it; or why it is refused; or, where shortest numbers are asked
-// for, that one is padded.
+// The total and the number of entries after an item.
 #[derive(Clone, Copy)]
-pub enum Passed {
-    Done {
-        next: usize,
-        total: u32,
-        used: usize,
-    },
-    Refused(u32),
+pub struct Passed {
+    pub total: u32,
+    pub used: usize,
+}
+
+// Why an item is not gone over: it is refused; or, where shortest numbers are asked for, one is padded.
+#[derive(Clone, Copy)]
+pub enum NotPassed {
     Padded,
+    Refused(Reason),
 }
 
-// An item up to its tails, and the place after that; or why it is refused.
+// The length of an item up to its tails, where all above 4,294,967,295 count as one more than that, and how many rows it uses.
 #[derive(Clone, Copy)]
-pub enum HeadRead {
-    Done { item: LogItem, next: usize },
-    Refused(u32),
+pub struct HeadSize {
+    pub len: usize,
+    pub count: usize,
 }
 
-// A tail, which is the total after its entry, and the place after it; or why it is refused.
+// The place after an item that was written, and the total after it.
 #[derive(Clone, Copy)]
-pub enum TailRead {
-    Done { total: u32, next: usize },
-    Refused(u32),
-}
-
-// The length of an item up to its tails, where all above 4,294,967,295 count as one more than that, and how many rows it uses; or why
-// it is refused.
-#[derive(Clone, Copy)]
-pub enum HeadSize {
-    Fine { len: usize, count: usize },
-    Refused(u32),
-}
-
-// The place after a piece of an item; or why it is not written.
-#[derive(Clone, Copy)]
-pub enum PartWrote {
-    Next(usize),
-    Refused(u32),
-}
-
-// The place after an item and the total after it; or why it is not written.
-#[derive(Clone, Copy)]
-pub enum ItemWrote {
-    Next { next: usize, total: u32 },
-    Refused(u32),
-}
-
-// The length of tails and the total after them; or a tail is above 4,294,967,295.
-#[derive(Clone, Copy)]
-enum TailsSize {
-    Fine { len: usize, total: u32 },
-    TooLarge,
-}
-
-#[derive(Clone, Copy)]
-enum CommandRead {
-    Done { command: Command, next: usize },
-    Refused(u32),
-}
-
-#[derive(Clone, Copy)]
-enum KeyValueRead {
-    Done { key_value: KeyValue, next: usize },
-    Refused(u32),
-}
-
-#[derive(Clone, Copy)]
-enum EntryIndexesRead {
-    Done { entries: EntryIndexes, next: usize },
-    Refused(u32),
-}
-
-#[derive(Clone, Copy)]
-enum ContentRead {
-    Done {
-        content: LogItemContent,
-        next: usize,
-    },
-    Refused(u32),
+pub struct ItemWrote {
+    pub next: usize,
+    pub total: u32,
 }
 
 impl LogItem {

@@ -21,6 +21,7 @@ use Rattle.log_batch.specs.Status.{status_of}
 use Rattle.log_batch.specs.View.{entry_check}
 use Rattle.list_writer.specs.declared.Encoded.{Encoded}
 use Rattle.item_row.specs.Reply.{Reply, reply}
+use Rattle.refusal.specs.declared.Reason.TheVariants.{TableBroken}
 
 -- r replies an answer that keeps the promise of the function below
 pub record Replied {A : Type 0} (Promised : A → Type 0) (replyOf : A → Reply) (r : Reply) : Type 0 where
@@ -63,7 +64,7 @@ plain_reply (plain.Refused r) = reply r.number (r.item ∷ 0 ∷ [])
 -- the check of an entry against the block that the queue names; a queue above 1 names none
 unfoldable pub queue_check : ℕ → ℕ → ℕ → ℕ → List ℕ → List ℕ → ℕ
 queue_check queue long offset len append rewrite = do
-  leb queue 1 else 26
+  leb queue 1 else Err TableBroken
   entry_check long offset len (cond (eqb queue 0) append rewrite)
 
 -- place, length

@@ -17,6 +17,7 @@ use Rattle.log_batch.proofs.Checking.{acceptance_told}
 use Rattle.log_batch.specs.Total.{agreeing}
 use Rattle.rows_reader.specs.Lent.{Filled, RowsRead}
 use Rattle.rows_reader.specs.Private.{Fits}
+use Rattle.refusal.specs.declared.Reason.TheVariants.{BlockDiffers}
 
 -- ---- a refusal
 
@@ -58,7 +59,7 @@ module _ (wanted : Wanted) (a : Answer) {m n u q : ℕ} (e : Accepted m n u q �
         let t = acceptance_told a e in
         record { xs = t.0; rows = t.1; reads = t.2; agrees = ap (agreeing wanted) t.2 ∙ rw (h, eq-eqb u k same); many = t.3; used = t.4 }
 
-    pub differs : (u ≡ k → ⊥) → agreeing wanted a ≡ rejected 20 0
+    pub differs : (u ≡ k → ⊥) → agreeing wanted a ≡ rejected BlockDiffers 0
     differs other = rw (h, (acceptance_told a e).2, ne_eqb u k other)
 
 -- ---- the rows that are lent

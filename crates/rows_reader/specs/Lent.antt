@@ -6,11 +6,12 @@ use Rattle.item_row.specs.Row.{item_row_count, entry_row_count, items_words, ent
 use Rattle.log_batch.specs.declared.BodyCheck.{BodyCheck}
 use Rattle.log_batch.specs.Reading.{Answer, accepted, rejected}
 use Rattle.log_batch.specs.Answers.{check_of}
+use Rattle.refusal.specs.declared.Reason.TheVariants.{OutputShort}
 
 -- an answer that has more rows than are lent is a 21
 abbrev pub fitting : List ℕ → List ℕ → Answer → Answer
 fitting items entries (accepted xs rows u q) = do
-  nat_le (length xs) (item_row_count items) && nat_le (length rows) (entry_row_count entries) else rejected 21 0
+  nat_le (length xs) (item_row_count items) && nat_le (length rows) (entry_row_count entries) else rejected OutputShort 0
   accepted xs rows u q
 fitting items entries (rejected r i) = rejected r i
 

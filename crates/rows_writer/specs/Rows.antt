@@ -11,6 +11,7 @@ use Rattle.list_writer.specs.declared.Measured.{Measured}
 use Rattle.list_writer.specs.Bytes.{list_bytes, body_bytes}
 use Rattle.list_writer.specs.Refusing.{Verdict, fine, refused, items_verdict}
 use Rattle.list_writer.specs.Answers.{measured_of}
+use Rattle.refusal.specs.declared.Reason.TheVariants.{ItemsTooMany}
 
 -- an item in front of those that follow; a row that is none ends the list
 abbrev pub item_before : ItemRowRead → List LogItem → List LogItem
@@ -49,7 +50,7 @@ then_row words k (refused number item) = refused number item
 -- 9, then the rows
 unfoldable pub rows_verdict : List ℕ → Bool → List ℕ → List ℕ → Verdict
 rows_verdict s checked words lengths = do
-  leb (item_row_count words) 256 else refused 9 0
+  leb (item_row_count words) 256 else refused ItemsTooMany 0
   then_row words (length (row_items words)) (items_verdict s checked (row_items words) lengths 0 0 0)
 
 -- the first refusal but 21, or the body's length and the entry total
