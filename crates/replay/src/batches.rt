@@ -33,9 +33,9 @@ fn encoded(line: &[u8], table: LogItemBatch, store: &[u8], content: &[u8]) -> bo
     let mut out = [0u8; 1024];
     let signature = line::short(line, 2);
     let r = if line::first_letter(line) == b'w' {
-        LogBatch::encode(table, store, content, signature, &mut out)
+        LogBatch::encode(&table, store, content, signature, &mut out)
     } else {
-        LogBatch::encode_unchecked(table, store, content, signature, &mut out)
+        LogBatch::encode_unchecked(&table, store, content, signature, &mut out)
     };
     match r {
         Ok(length) => answer::is_bytes(line, 6, line::front(&out, length)),

@@ -105,7 +105,7 @@ pub(crate) fn written(line: &[u8]) -> bool {
     if table.refusal.is_some() {
         return false;
     }
-    match LogItemBatch::encode_unchecked(table, bytes, line::short(line, 2), &mut out) {
+    match table.encode_unchecked(bytes, line::short(line, 2), &mut out) {
         Ok(length) => answer::is_bytes(line, 5, line::front(&out, length)),
         Err(why) => answer::is_refused(line, 5, why.reason),
     }

@@ -1,7 +1,7 @@
 // Locations: rewriting, and the fetch before a gate. Tables are of at most 64 rows, six words each.
 use crate::items;
 use location_rules::Table;
-use location_table::{fetch_entry_indexes_before, rewrite};
+use location_table::{Rows, fetch_entry_indexes_before, rewrite};
 use pipe_log::{Location, LogQueue};
 
 const BLANK: Location = Location {
@@ -18,17 +18,17 @@ pub(crate) fn moved(line: &[u8]) -> bool {
     let len = line::short(line, 4) as usize;
     let rows = table_rows(line, 5, len);
     let k = past(5, len);
-    let incoming = line::short(line, on(k, 3)) as usize;
-    let in_rows = table_rows(line, on(k, 4), incoming);
+    let many = line::short(line, on(k, 3)) as usize;
+    let incoming = table_rows(line, on(k, 4), many);
     let first = line::number(line, on(k, 2));
     let gate = gate_at(line, k);
     let table = table_at(line);
-    let left = rewrite(rows, len, table, in_rows, incoming, first, gate);
+    let left = rewrite(rows, table, incoming, first, gate);
     let Ok(r) = left.answer else {
         return false;
     };
-    let start = on(past(on(k, 4), incoming), 1);
-    rows_agree(line, start, r.count as u64, left.rows, len)
+    let start = on(past(on(k, 4), many), 1);
+    rows_agree(line, start, r.count as u64, left.rows)
 }
 
 // take NAME FIRST COUNT ROWS GATE = PLACE LENGTH
@@ -37,7 +37,6 @@ pub(crate) fn taken(line: &[u8]) -> bool {
     let k = past(5, len);
     let r = fetch_entry_indexes_before(
         table_rows(line, 5, len),
-        len,
         table_at(line),
         line::number(line, k),
     );
@@ -74,12 +73,12 @@ fn past(k: usize, rows: usize) -> usize {
 }
 
 // The rows from a word on; those that are not there are blank.
-fn table_rows(line: &[u8], k: usize, count: usize) -> [Location; 64] {
-    let mut rows = [BLANK; 64];
+fn table_rows(line: &[u8], k: usize, count: usize) -> Rows {
+    let mut all = [BLANK; 64];
     for i in 0..count.min(64) {
-        rows[i] = row(line, past(k, i));
+        all[i] = row(line, past(k, i));
     }
-    rows
+    Rows { all, len: count }
 }
 
 fn row(line: &[u8], k: usize) -> Location {
@@ -99,13 +98,13 @@ fn row(line: &[u8], k: usize) -> Location {
 }
 
 // The rewritten count, the rows, and how many of them are in each queue.
-fn rows_agree(line: &[u8], k: usize, count: u64, rows: [Location; 64], len: usize) -> bool {
+fn rows_agree(line: &[u8], k: usize, count: u64, rows: Rows) -> bool {
     let a = items::number(line, k, count);
-    let b = items::number(line, a, len as u64);
-    let used = &rows[..len.min(64)];
+    let b = items::number(line, a, rows.len as u64);
+    let used = &rows.all[..rows.len.min(64)];
     let c = rows_words(line, b, used);
     let append = in_append(used);
-    let Some(rewrite) = len.checked_sub(append) else {
+    let Some(rewrite) = rows.len.checked_sub(append) else {
         return false;
     };
     let d = items::number(line, c, append as u64);

@@ -1,35 +1,30 @@
 // Rows of locations, as a word spells them and as a line shows them. A row is QUEUE,FILE,PLACE,BLOCKLENGTH,OFFSET,LENGTH: its queue is A
 // or R, the rest is in hex, and what is left out at the end is 0. Rows are joined by semicolons, and `-` is none.
 use crate::text;
+use location_table::Rows;
 use pipe_log::{Location, LogQueue};
 use std::io;
 
-// At most 64 rows, and how many there are.
-#[derive(Clone, Copy)]
-pub(crate) struct Run {
-    pub(crate) rows: [Location; 64],
-    pub(crate) len: usize,
-}
-
-pub(crate) fn rows(word: &[u8]) -> Run {
-    let mut run = Run {
-        rows: [row(b"A"); 64],
+// At most 64 rows.
+pub(crate) fn rows(word: &[u8]) -> Rows {
+    let mut rows = Rows {
+        all: [row(b"A"); 64],
         len: 0,
     };
     let mut at = 0;
     if line::first_letter(word) == b'-' {
-        return run;
+        return rows;
     }
     for i in 0..64 {
         let end = line::find(word, at, b';');
-        run.rows[i] = row(line::part(word, at, end));
-        run.len = i + 1;
+        rows.all[i] = row(line::part(word, at, end));
+        rows.len = i + 1;
         if word.len() <= end {
-            return run;
+            return rows;
         }
         at = end + 1;
     }
-    run
+    rows
 }
 
 fn row(word: &[u8]) -> Location {

@@ -2,13 +2,13 @@
 // rows afterwards; or a fetch's number, place and length.
 use crate::{locations, text};
 use location_rules::Table;
-use locations::Run;
+use location_table::Rows;
 use std::io;
 
 // A table and its rows.
 #[derive(Clone, Copy)]
 struct Memtable {
-    run: Run,
+    rows: Rows,
     table: Table,
 }
 
@@ -36,7 +36,7 @@ pub(crate) fn case(rt: &impl Print, line: &[u8]) -> io::Result<()> {
 
 fn table(words: &[u8]) -> Memtable {
     Memtable {
-        run: locations::rows(line::word(words, 2)),
+        rows: locations::rows(line::word(words, 2)),
         table: Table {
             first: line::number(words, 0),
             count: line::number(words, 1) as usize,
@@ -55,10 +55,8 @@ fn rewrite(rt: &impl Print, line: &[u8], call: &[u8], from: Memtable) -> io::Res
     let incoming = locations::rows(line::word(call, 3));
     let first = line::number(call, 2);
     let gate = gate(line::word(call, 1));
-    let Memtable { run, table } = from;
-    let left = location_table::rewrite(
-        run.rows, run.len, table, incoming.rows, incoming.len, first, gate,
-    );
+    let Memtable { rows, table } = from;
+    let left = location_table::rewrite(rows, table, incoming, first, gate);
     start(rt, line, call)?;
     let count = match left.answer {
         Ok(r) => {
@@ -70,14 +68,11 @@ fn rewrite(rt: &impl Print, line: &[u8], call: &[u8], from: Memtable) -> io::Res
             table.count
         }
     };
-    let after = left.rows;
-    locations::show(rt, &after[..run.len.min(64)])?;
+    let rows = left.rows;
+    locations::show(rt, &rows.all[..rows.len.min(64)])?;
     text::end(rt)?;
     Ok(Memtable {
-        run: Run {
-            rows: after,
-            len: run.len,
-        },
+        rows,
         table: Table {
             first: table.first,
             count,
@@ -94,9 +89,8 @@ fn gate(word: &[u8]) -> Option<u64> {
 }
 
 fn fetch(rt: &impl Print, line: &[u8], call: &[u8], from: Memtable) -> io::Result<()> {
-    let Memtable { run, table } = from;
     let gate = line::number(call, 1);
-    let r = location_table::fetch_entry_indexes_before(run.rows, run.len, table, gate);
+    let r = location_table::fetch_entry_indexes_before(from.rows, from.table, gate);
     start(rt, line, call)?;
     match r {
         Ok(run) => text::numbers(rt, &[0, run.place as u64, run.len as u64])?,

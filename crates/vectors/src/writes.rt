@@ -48,10 +48,10 @@ fn encode(
     let whole = line::first_letter(line::word(words, 0)) == b'w';
     let checked = line::first_letter(line::word(words, 1)) == b'c';
     match (whole, checked) {
-        (true, true) => LogBatch::encode(table, store, content, signature, out),
-        (true, false) => LogBatch::encode_unchecked(table, store, content, signature, out),
-        (false, true) => LogItemBatch::encode(table, store, signature, out),
-        (false, false) => LogItemBatch::encode_unchecked(table, store, signature, out),
+        (true, true) => LogBatch::encode(&table, store, content, signature, out),
+        (true, false) => LogBatch::encode_unchecked(&table, store, content, signature, out),
+        (false, true) => table.encode(store, signature, out),
+        (false, false) => table.encode_unchecked(store, signature, out),
     }
 }
 
