@@ -9,8 +9,9 @@ ghost use Rattle.memtable.specs.Table.{well_formed};
 ghost use Rattle.memtable.specs.Rewriting.{Rewrote};
 ghost use Rattle.memtable.specs.Fetching.{fetch_of};
 
-use location_rules::{Fetched, Gate, Rewritten, Stop, Table};
+use location_rules::{Fetched, Rewritten, Stop, Table};
 use pipe_log::Location;
+use refusal::Reason;
 
 // Replaces the rows that overlap the incoming ones, from the overlap's start until its end or the first stop. The incoming rows are
 // consecutive from the index `first` on. A refused rewrite changes no row.
@@ -19,8 +20,8 @@ pub fn rewrite(
     table: Table,
     incoming: &[Location],
     first: u64,
-    gate: Gate,
-) -> Rewritten
+    gate: Option<u64>,
+) -> Result<Rewritten, Reason>
     ensures { Rewrote rows.old table incoming.now first gate result rows.new }
 {
     let good = is_well_formed(rows, table);
@@ -29,17 +30,21 @@ pub fn rewrite(
     let over = location_rules::overlap_of(table.first, rows.len(), first, incoming.len());
     let stop = location_rules::stop_of(gate);
     let end = scan(rows, over.start, over.end, stop);
-    let answer = location_rules::decide(good, ready, table, over, end, gate);
+    let answer = location_rules::decide(good, ready, table, over, end, gate)?;
     replace(rows, incoming, over.start, over.from, answer.replaced);
-    answer
+    Ok(answer)
 }
 
 // The longest run of rows from the rewritten count on with file number at most the gate.
-pub fn fetch_entry_indexes_before(rows: &[Location], table: Table, gate: u64) -> Fetched
+pub fn fetch_entry_indexes_before(
+    rows: &[Location],
+    table: Table,
+    gate: u64,
+) -> Result<Fetched, Reason>
     ensures { result ≡ fetch_of rows.now table gate }
 {
     let good = is_well_formed(rows, table);
-    let start = words::least(table.count, rows.len());
+    let start = table.count.min(rows.len());
     let end = scan(rows, start, rows.len(), Stop::Above(gate));
     location_rules::run_from(good, table, start, end)
 }
@@ -48,7 +53,7 @@ pub fn fetch_entry_indexes_before(rows: &[Location], table: Table, gate: u64) ->
 fn is_well_formed(rows: &[Location], table: Table) -> bool
     ensures { result ≡ well_formed rows.now table }
 {
-    let count = words::least(table.count, rows.len());
+    let count = table.count.min(rows.len());
     let front = scan(rows, 0, count, Stop::Append);
     let back = scan(rows, count, rows.len(), Stop::Rewrite);
     location_rules::is_formed(table, rows.len(), front, back)
@@ -59,14 +64,13 @@ fn scan(rows: &[Location], lo: usize, hi: usize, stop: Stop) -> usize
     requires { (lo ≤ hi) × (hi ≤ length rows.now) }
     ensures { result ≡ lo + run_of stop (take (hi - lo) (drop lo rows.now)) }
 {
-    let mut i: usize = lo;
-    while i < hi {
-        if location_rules::stops(rows[i], stop) {
-            break;
-        }
-        i = i + 1;
+    let first = rows[lo..hi]
+        .iter()
+        .position(|row| location_rules::stops(*row, stop));
+    match first {
+        Some(i) => lo + i,
+        None => hi,
     }
-    i
 }
 
 // Puts k incoming rows, those from `from` on, in the place of the rows from start on.
@@ -74,9 +78,5 @@ fn replace(rows: &mut [Location], incoming: &[Location], start: usize, from: usi
     requires { (start + k ≤ length rows.old) × (from + k ≤ length incoming.now) }
     ensures { rows.new ≡ paste rows.old start (drop from incoming.now) k }
 {
-    let mut i: usize = 0;
-    while i < k {
-        rows[start + i] = incoming[from + i];
-        i = i + 1;
-    }
+    rows[start..start + k].copy_from_slice(&incoming[from..from + k]);
 }
