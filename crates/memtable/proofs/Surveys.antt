@@ -10,19 +10,16 @@ use lib.Dec.{leb, leb-suc-suc, leb-suc-zero}
 use lib.ListN.{length, take, drop, length-drop}
 use lib.Seq.{take_all, length-take-le}
 use borrow.Author.Tests.{lt-leb, leb-true, leb-false}
-use Rattle.std.specs.Prelude.{Result}
 use Rattle.std.specs.List.{list_all}
 use Rattle.std.proofs.lemmas.Bool.Decides.{nat_tests}
-use Rattle.refusal.specs.declared.Reason.{Reason}
 use Rattle.pipe_log.specs.declared.Location.{Location}
 use Rattle.location_rules.specs.declared.Table.{Table}
 use Rattle.location_rules.specs.declared.Stop.{Stop}
 use Rattle.location_rules.specs.Row.{in_append, in_rewrite, stops_at}
 use Rattle.memtable.specs.Rows.{run_of}
 use Rattle.memtable.specs.Table.{well_formed, ready}
-use Rattle.location_rules.specs.declared.Fetched.{Fetched}
 use Rattle.location_rules.specs.Decisions.{fetched}
-use Rattle.memtable.specs.Fetching.{fetch_of}
+use Rattle.memtable.specs.Fetching.{fetch_in}
 use Rattle.location_rules.specs.Parts.{well_formed_by, ready_by}
 use Rattle.memtable.proofs.Queues.{not_append, not_rewrite}
 
@@ -69,33 +66,39 @@ module _ (ys : List Location) (t : Table) where
   unfolding well_formed_by well_formed
   outside f b l = rw (lt-leb t.count (length ys) l) refl
 
-  pub formed_by : (c f b : ℕ) → c ≡ min t.count (length ys) → f ≡ 0 + run_of Stop.Append (take (c - 0) (drop 0 ys)) → b ≡ c + run_of Stop.Rewrite (take (length ys - c) (drop c ys)) → well_formed_by t (length ys) f b ≡ well_formed ys t
-  formed_by c f b e₀ e₁ e₂ = told (leb t.count (length ys)) refl
+  pub formed_by : (n c f b : ℕ) → n ≡ length ys → c ≡ min t.count n → f ≡ 0 + run_of Stop.Append (take (c - 0) (drop 0 ys)) → b ≡ c + run_of Stop.Rewrite (take (n - c) (drop c ys)) → well_formed_by t n f b ≡ well_formed ys t
+  formed_by n c f b e e₀ e₁ e₂ = rw e (told (leb t.count (length ys)) refl)
     where
+      back : b ≡ c + run_of Stop.Rewrite (drop c ys)
+      back = e₂ ∙ ap (λ (k : ℕ). c + run_of Stop.Rewrite (take (k - c) (drop c ys))) e ∙ ap (λ (v : List Location). c + run_of Stop.Rewrite v) (from_on c ys)
+
       told : (x : Bool) → leb t.count (length ys) ≡ x → well_formed_by t (length ys) f b ≡ well_formed ys t
       told true z =
           let l = leb-true t.count (length ys) z in
-          let same : c ≡ t.count = omega (arith, e₀, l) in
-          inside f b l (e₁ ∙ zero-add _ ∙ ap (λ (k : ℕ). run_of Stop.Append (take k ys)) (sub-zero c ∙ same)) (e₂ ∙ ap (λ (v : List Location). c + run_of Stop.Rewrite v) (from_on c ys) ∙ ap (λ (k : ℕ). k + run_of Stop.Rewrite (drop k ys)) same)
+          let same : c ≡ t.count = omega (arith, e, e₀, l) in
+          inside f b l (e₁ ∙ zero-add _ ∙ ap (λ (k : ℕ). run_of Stop.Append (take k ys)) (sub-zero c ∙ same)) (back ∙ ap (λ (k : ℕ). k + run_of Stop.Rewrite (drop k ys)) same)
       told false z = outside f b (leb-false t.count (length ys) z)
 
 -- incoming rows
-pub ready_by_run : (ys : List Location) (first e : ℕ) → e ≡ 0 + run_of Stop.Append (take (length ys - 0) (drop 0 ys)) → ready_by e (length ys) first ≡ ready ys first
+pub ready_by_run : (ys : List Location) (first n e : ℕ) → n ≡ length ys → e ≡ 0 + run_of Stop.Append (take (n - 0) (drop 0 ys)) → ready_by e n first ≡ ready ys first
 unfolding ready_by ready
-ready_by_run ys first e h = rw (ap (leb (length ys)) (h ∙ zero-add _ ∙ ap (run_of Stop.Append) (from_on 0 ys)) ∙ all_rewrite ys) refl
+ready_by_run ys first n e same h = rw (same, all) refl
+  where
+    all : leb (length ys) e ≡ list_all in_rewrite ys
+    all = ap (leb (length ys)) (h ∙ zero-add _ ∙ ap (λ (k : ℕ). run_of Stop.Append (take (k - 0) ys)) same ∙ ap (run_of Stop.Append) (from_on 0 ys)) ∙ all_rewrite ys
 
 -- the run from the count on
-pub fetched_by : (ys : List Location) (t : Table) (gate : ℕ) (x : Bool) (c e : ℕ) (r : Result Fetched Reason) → x ≡ well_formed ys t → c ≡ min t.count (length ys)
-    → e ≡ c + run_of (Stop.Above gate) (take (length ys - c) (drop c ys)) → r ≡ fetched x t (e - c) → r ≡ fetch_of ys t gate
-unfolding fetched fetch_of
-fetched_by ys t gate x c e r e₀ e₁ e₂ e₃ = e₃ ∙ told (well_formed ys t) refl
+pub fetched_by : (isWhole : Bool) (ys : List Location) (t : Table) (gate : ℕ) (good : Bool) (n c e : ℕ) → good ≡ (isWhole && well_formed ys t) → n ≡ length ys → c ≡ min t.count n
+    → e ≡ c + run_of (Stop.Above gate) (take (n - c) (drop c ys)) → fetched good t (e - c) ≡ fetch_in isWhole ys t gate
+unfolding fetched fetch_in
+fetched_by isWhole ys t gate good n c e e₀ long e₁ e₂ = told (isWhole && well_formed ys t) refl
   where
     run : e - c ≡ run_of (Stop.Above gate) (drop c ys)
-    run = omega (arith, e₂) ∙ ap (run_of (Stop.Above gate)) (from_on c ys)
+    run = omega (arith, e₂) ∙ ap (λ (k : ℕ). run_of (Stop.Above gate) (take (k - c) (drop c ys))) long ∙ ap (run_of (Stop.Above gate)) (from_on c ys)
 
-    at_count : well_formed ys t ≡ true → c ≡ t.count
-    at_count z = omega (arith, e₁, formed_count ys t z)
+    at_count : (isWhole && well_formed ys t) ≡ true → c ≡ t.count
+    at_count z = omega (arith, e₁, long, formed_count ys t ((and-eq-true_iff isWhole (well_formed ys t)).0 z).1)
 
-    told : (b : Bool) → well_formed ys t ≡ b → fetched x t (e - c) ≡ fetched (well_formed ys t) t (run_of (Stop.Above gate) (drop t.count ys))
-    told true z = rw e₀ (ap (fetched (well_formed ys t) t) (run ∙ ap (λ (k : ℕ). run_of (Stop.Above gate) (drop k ys)) (at_count z)))
+    told : (b : Bool) → (isWhole && well_formed ys t) ≡ b → fetched good t (e - c) ≡ fetched (isWhole && well_formed ys t) t (run_of (Stop.Above gate) (drop t.count ys))
+    told true z = rw e₀ (ap (fetched (isWhole && well_formed ys t) t) (run ∙ ap (λ (k : ℕ). run_of (Stop.Above gate) (drop k ys)) (at_count z)))
     told false z = rw (e₀, z) refl

@@ -1,6 +1,6 @@
 -- What a rewrite of locations answers, and the rows afterwards.
 -- Assumes nothing.
-use Rattle.std.specs.Prelude.{ℕ, ◌-◌, ◌≡◌, Option, Result, List, length, take, drop}
+use Rattle.std.specs.Prelude.{ℕ, ◌-◌, ◌≡◌, Bool, ◌&&◌, Option, Result, List, length, take, drop}
 use Rattle.std.proofs.Math.Seq.{paste}
 use Rattle.refusal.specs.declared.Reason.{Reason}
 use Rattle.pipe_log.specs.declared.Location.{Location}
@@ -30,6 +30,11 @@ run_length rows t incoming first gate = run_of (stop_of gate) (take (overlap_len
 unfoldable pub rewrite_of : List Location → Table → List Location → ℕ → Option ℕ → Result Rewritten Reason
 rewrite_of rows t incoming first gate =
     answered (well_formed rows t) (ready incoming first) t (start_place t first) (overlap_length rows t incoming first) (run_length rows t incoming first gate) gate
+
+-- the same of rows of which one may be no location's: one of the table's is a 26, an incoming one a 27
+unfoldable pub rewrite_in : Bool → List Location → Table → Bool → List Location → ℕ → Option ℕ → Result Rewritten Reason
+rewrite_in isWhole rows t areWhole incoming first gate =
+    answered (isWhole && well_formed rows t) (areWhole && ready incoming first) t (start_place t first) (overlap_length rows t incoming first) (run_length rows t incoming first gate) gate
 
 -- how many rows are replaced, and the count afterwards
 abbrev pub outcome_of : List Location → Table → List Location → ℕ → Option ℕ → Rewritten

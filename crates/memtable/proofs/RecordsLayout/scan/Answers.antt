@@ -7,7 +7,7 @@ use borrow.Author.Tests.{tests}
 use Rattle.pipe_log.specs.declared.Location.{Location}
 use Rattle.memtable.specs.Rows.{run_of}
 use Rattle.memtable.proofs.RunPlaces.{Stops, Passes, run_place}
-use Rattle.memtable.proofs.scan.Goals as goal
+use Rattle.memtable.proofs.RecordsLayout.scan.Goals as goal
 
 pub returns-in-Some : goal.returns-in-Some
 returns-in-Some c =
