@@ -120,7 +120,7 @@ pub fn fetch_entry_indexes_before(
     fetch_in::<Records>(rows, table, gate)
 }
 
-// The same of rows that lie in any way. A row of the table that is no location's is a 26, an incoming one a 27.
+// The rewrite of rows that lie in any way. A row of the table that is no location's is a 26, an incoming one a 27.
 pub fn rewrite_in<L: Layout>(
     rows: &mut [L::Cell],
     table: Table,
@@ -141,7 +141,7 @@ pub fn rewrite_in<L: Layout>(
     Ok(answer)
 }
 
-// The same of rows that lie in any way. A row that is no location's is a 26.
+// The fetch from rows that lie in any way. A row that is no location's is a 26.
 pub fn fetch_in<L: Layout>(rows: &[L::Cell], table: Table, gate: u64) -> Result<Fetched, Reason>
     ensures { result ≡ fetch_in (L.whole rows.now) (L.located rows.now) table gate }
 {
