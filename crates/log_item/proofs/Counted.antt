@@ -64,13 +64,11 @@ module _ (form : Form) (s : List ℕ) where
   unfolding pass_tails tails
   pass_end t p e = rw e
 
-  pub pass_next : (n t p : ℕ) → 0 < n → {w q : ℕ} → tail form s t p ≡ got w q → pass_tails form s (n - 1) w q ≡ pass_tails form s n t p
+  pub pass_next : {n m : ℕ} (t p : ℕ) → n ≡ suc m → {w q : ℕ} → tail form s t p ≡ got w q → pass_tails form s m w q ≡ pass_tails form s n t p
   unfolding tails
-  pass_next zero t p some e = absurd (omega arith)
-  pass_next (suc n) t p some {w} {q} e =
-      let less : suc n - 1 ≡ n = omega arith in
-      let one : total_of (tails form s (suc n) 0 t p) ≡ total_of (tails form s n (0 + 1) w q) = rw e (row_ahead _ (tails form s n (0 + 1) w q)) in
-      rw less (sym (total_pass n (0 + 1) w q) ∙ sym one ∙ total_pass (suc n) 0 t p)
+  pass_next {n} {m} t p k {w} {q} e =
+      let one : total_of (tails form s (suc m) 0 t p) ≡ total_of (tails form s m (0 + 1) w q) = rw e (row_ahead _ (tails form s m (0 + 1) w q)) in
+      rw k (sym (total_pass m (0 + 1) w q) ∙ sym one ∙ total_pass (suc m) 0 t p)
 
   pub pass_stop : (n t p : ℕ) → 0 < n → {r : Reason} → tail form s t p ≡ refused r → refused r ≡ pass_tails form s n t p
   unfolding pass_tails tails

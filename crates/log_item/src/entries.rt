@@ -15,7 +15,12 @@ const ENTRIES_MAX: usize = 1024;
 
 // A count of entries, with `used` before them in the batch.
 #[tactic(auto, unfolding(crate::specs::Reading::entry_count_of))]
-pub(crate) fn read_count(buf: &[u8], at: usize, used: usize, form: Form) -> Result<Piece<usize>, Reason>
+pub(crate) fn read_count(
+    buf: &[u8],
+    at: usize,
+    used: usize,
+    form: Form,
+) -> Result<Piece<usize>, Reason>
     ensures { got_of result ≡ entry_count_of form buf.now used at }
 {
     let Piece { value, next } = read_number_in(buf, at, form)?;
@@ -30,7 +35,12 @@ pub(crate) fn read_count(buf: &[u8], at: usize, used: usize, form: Form) -> Resu
 
 // The first index of `count` entries, where there are any.
 #[tactic(auto, unfolding(crate::specs::Reading::first_index_of))]
-pub(crate) fn read_first_index(buf: &[u8], at: usize, count: usize, form: Form) -> Result<Piece<EntryIndexes>, Reason>
+pub(crate) fn read_first_index(
+    buf: &[u8],
+    at: usize,
+    count: usize,
+    form: Form,
+) -> Result<Piece<EntryIndexes>, Reason>
     ensures { got_of result ≡ first_index_of form buf.now count at }
 {
     if count == 0 {
@@ -56,7 +66,13 @@ pub(crate) fn read_first_index(buf: &[u8], at: usize, count: usize, form: Form) 
 }
 
 // Goes over `count` tails: the total and the place after them.
-pub(crate) fn skip_tails(buf: &[u8], at: usize, count: usize, before: u32, form: Form) -> Result<Piece<u32>, Reason>
+pub(crate) fn skip_tails(
+    buf: &[u8],
+    at: usize,
+    count: usize,
+    before: u32,
+    form: Form,
+) -> Result<Piece<u32>, Reason>
     ensures { got_of result ≡ pass_tails form buf.now count before at }
 {
     let mut last = Piece {
@@ -70,10 +86,7 @@ pub(crate) fn skip_tails(buf: &[u8], at: usize, count: usize, before: u32, form:
 }
 
 // The tail at a place, with the total `before` it.
-#[tactic(
-    auto,
-    unfolding(crate::specs::Reading::tail, crate::specs::Private::as_tail)
-)]
+#[tactic(auto, unfolding(crate::specs::Reading::tail, crate::specs::Private::as_tail))]
 fn read_tail(buf: &[u8], at: usize, before: u32, form: Form) -> Result<Piece<u32>, Reason>
     ensures { got_of result ≡ tail form buf.now before at }
 {

@@ -132,7 +132,10 @@ impl LogItem {
     pub fn decode(buf: &[u8], at: usize, total: u32, used: usize) -> Result<Piece<ItemRead>, Reason>
         ensures { got_of result ≡ counted_item Form.Any buf.now used total at }
     {
-        let Piece { value: item, next: tails } = LogItem::decode_head(buf, at, used)?;
+        let Piece {
+            value: item,
+            next: tails,
+        } = LogItem::decode_head(buf, at, used)?;
         let count = item.entries().count;
         let last = skip_tails(buf, tails, count, total, Form::Any)?;
         Ok(Piece {
@@ -179,10 +182,7 @@ impl LogItem {
 
 impl EntryIndexes {
     // The tail at a place, with the total `before` it.
-    #[tactic(
-        auto,
-        unfolding(crate::specs::Reading::tail, crate::specs::Private::as_tail)
-    )]
+    #[tactic(auto, unfolding(crate::specs::Reading::tail, crate::specs::Private::as_tail))]
     pub fn decode_tail(buf: &[u8], at: usize, before: u32) -> Result<Piece<u32>, Reason>
         ensures { got_of result ≡ tail Form.Any buf.now before at }
     {
@@ -224,7 +224,12 @@ impl Command {
 
 // The content of an item of a type.
 #[tactic(auto, unfolding(crate::specs::Reading::content))]
-fn read_content(buf: &[u8], at: usize, used: usize, kind: u8) -> Result<Piece<LogItemContent>, Reason>
+fn read_content(
+    buf: &[u8],
+    at: usize,
+    used: usize,
+    kind: u8,
+) -> Result<Piece<LogItemContent>, Reason>
     ensures { got_of result ≡ content Form.Any buf.now used kind at }
 {
     match kind {

@@ -13,7 +13,13 @@ use words::Piece;
 impl LogItem {
     // Goes over the item at a place: what decode answers but the item and the place of its tails, and in a form. It is quicker than
     // decode, since no item is handed back.
-    pub fn pass(buf: &[u8], at: usize, total: u32, used: usize, form: Form) -> Result<Piece<Passed>, NotPassed>
+    pub fn pass(
+        buf: &[u8],
+        at: usize,
+        total: u32,
+        used: usize,
+        form: Form,
+    ) -> Result<Piece<Passed>, NotPassed>
         ensures { result ≡ passed_of (pass_item form buf.now used total at) }
     {
         pass_item(buf, at, total, used, form).map_err(NotPassed::from)
@@ -34,7 +40,13 @@ impl From<Reason> for NotPassed {
 
 // The item at a place: a padded number is refused with NotShortest here and below.
 #[tactic(auto, unfolding(crate::specs::Answers::pass_item, crate::specs::Answers::counted_item, crate::specs::Reading::head))]
-fn pass_item(buf: &[u8], at: usize, total: u32, used: usize, form: Form) -> Result<Piece<Passed>, Reason>
+fn pass_item(
+    buf: &[u8],
+    at: usize,
+    total: u32,
+    used: usize,
+    form: Form,
+) -> Result<Piece<Passed>, Reason>
     ensures { got_of result ≡ pass_item form buf.now used total at }
 {
     let group = read_number_in(buf, at, form)?;
@@ -43,8 +55,15 @@ fn pass_item(buf: &[u8], at: usize, total: u32, used: usize, form: Form) -> Resu
 }
 
 // The content of an item of a type, and its tails. After a command or a key the total and the number of entries are as before.
-#[tactic(auto, unfolding(crate::specs::Private::pass_content, crate::specs::Reading::content))]
-fn pass_content(buf: &[u8], at: usize, total: u32, used: usize, kind: u8, form: Form) -> Result<Piece<Passed>, Reason>
+#[tactic(auto, using(crate::proofs::Passing::passed_entries), unfolding(crate::specs::Private::pass_content, crate::specs::Private::pass_tails, crate::specs::Reading::content, crate::specs::Reading::tails))]
+fn pass_content(
+    buf: &[u8],
+    at: usize,
+    total: u32,
+    used: usize,
+    kind: u8,
+    form: Form,
+) -> Result<Piece<Passed>, Reason>
     ensures { got_of result ≡ pass_content form buf.now used total kind at }
 {
     let next = match kind {
@@ -62,16 +81,22 @@ fn pass_content(buf: &[u8], at: usize, total: u32, used: usize, kind: u8, form: 
 // A count of entries, their first index and their tails. The readers of EntryIndexes::decode are called one by one: each by itself is
 // small enough to be compiled in line here and there.
 #[tactic(auto, unfolding(crate::specs::Private::pass_entries, crate::specs::Reading::entry_indexes))]
-fn pass_entries(buf: &[u8], at: usize, total: u32, used: usize, form: Form) -> Result<Piece<Passed>, Reason>
+fn pass_entries(
+    buf: &[u8],
+    at: usize,
+    total: u32,
+    used: usize,
+    form: Form,
+) -> Result<Piece<Passed>, Reason>
     ensures { got_of result ≡ pass_entries form buf.now used total at }
 {
     let count = read_count(buf, at, used, form)?;
-    let first = read_first_index(buf, count.next, count.value, form)?;
-    let last = skip_tails(buf, first.next, count.value, total, form)?;
+    let entries = read_first_index(buf, count.next, count.value, form)?;
+    let last = skip_tails(buf, entries.next, entries.value.count, total, form)?;
     Ok(Piece {
         value: Passed {
             total: last.value,
-            used: used + count.value,
+            used: used + entries.value.count,
         },
         next: last.next,
     })

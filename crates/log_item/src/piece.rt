@@ -8,11 +8,7 @@ use refusal::Reason;
 use words::Piece;
 
 // A length and as many bytes: where these stand.
-#[tactic(
-    auto,
-    using(crate::proofs::NumberGot::number_inside),
-    unfolding(crate::specs::Pieces::span)
-)]
+#[tactic(auto, using(crate::proofs::NumberGot::number_inside), unfolding(crate::specs::Pieces::span))]
 pub(crate) fn read_span(buf: &[u8], at: usize, form: Form) -> Result<Piece<Span>, Reason>
     ensures { got_of result ≡ span form buf.now at }
 {
@@ -36,11 +32,7 @@ pub fn read_number(buf: &[u8], at: usize) -> Result<Piece<u64>, Reason>
 }
 
 // The number at a place, in the form asked for.
-#[tactic(
-    auto,
-    using(crate::proofs::NumberGot::number_inside),
-    unfolding(crate::specs::Pieces::number)
-)]
+#[tactic(auto, using(crate::proofs::NumberGot::number_inside), unfolding(crate::specs::Pieces::number))]
 pub(crate) fn read_number_in(buf: &[u8], at: usize, form: Form) -> Result<Piece<u64>, Reason>
     ensures { got_of result ≡ number form buf.now at }
 {
