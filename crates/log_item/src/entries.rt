@@ -114,17 +114,15 @@ fn read_short(buf: &[u8], at: usize, form: Form) -> Result<Piece<u64>, Reason>
     ensures { got_of result ≡ number form buf.now at }
 {
     if let Form::Any = form {
-        if at < buf.len() && 2 < buf.len() - at {
-            let a = u64::from(buf[at]);
+        if let Some([a, b, c, ..]) = buf.get(at..) {
+            let [a, b, c] = [u64::from(*a), u64::from(*b), u64::from(*c)];
             if 128 <= a {
-                let b = u64::from(buf[at + 1]);
                 if b < 128 {
                     return Ok(Piece {
                         value: a - 128 + (b << 7),
                         next: at + 2,
                     });
                 }
-                let c = u64::from(buf[at + 2]);
                 if c < 128 {
                     return Ok(Piece {
                         value: a - 128 + ((b - 128) << 7) + (c << 14),
