@@ -1,6 +1,8 @@
 -- What the contracts of private functions cite: this file serves them alone, and no public contract.
 -- Assumes nothing.
-use Rattle.std.specs.Prelude.{ℕ, ◌+◌, ◌≤◌, min, ◌≡◌, cond, List, length}
+use Rattle.std.specs.Prelude.{ℕ, ◌+◌, ◌≤◌, min, ◌≡◌, not, Result, Ok, Err, List, length}
+use Rattle.refusal.specs.First.{◌else◌, ◌>>◌}
+use Rattle.refusal.specs.declared.Reason.{Reason}
 use Rattle.std.proofs.lemmas.List.Edits.{sets}
 use Rattle.codec.specs.Shortest.{shortest}
 use Rattle.log_item.specs.declared.Span.{Span}
@@ -11,8 +13,6 @@ use Rattle.log_item.specs.declared.LogItemContent.TheVariants as contents
 use Rattle.log_item.specs.declared.LogItem.{LogItem}
 use Rattle.log_item.specs.Bytes.{entries_bytes, command_bytes, tails_bytes}
 use Rattle.log_item.specs.Written.{sum_of, tail_above}
-use Rattle.log_item.specs.declared.TailsSize.{TailsSize}
-use Rattle.log_item.specs.declared.TailsSize.TheVariants.{Fine, TooLarge}
 use Rattle.log_item.specs.Got.{Got, got, refused, Reading, done, ◌>>=◌}
 use Rattle.log_item.specs.Entries.{entries_of}
 use Rattle.log_item.specs.Reading.{entry_indexes, content, tails}
@@ -32,7 +32,7 @@ use Rattle.log_item.specs.declared.Passed.{Passed}
 use Rattle.log_item.specs.declared.Passed.TheVariants as passed
 use Rattle.log_item.specs.declared.ContentRead.{ContentRead}
 use Rattle.log_item.specs.declared.ContentRead.TheVariants as content_read
-use Rattle.refusal.specs.declared.Reason.TheVariants.{NotShortest}
+use Rattle.refusal.specs.declared.Reason.TheVariants.{NotShortest, TailTooLarge}
 
 -- what the readers of spans and contents answer, in the words of the definitions
 abbrev pub span_got : SpanRead → Got Span
@@ -115,6 +115,8 @@ item_content_length (contents.Kv k) = op_length k.key k.op
 unfoldable pub head_length : LogItem → ℕ
 head_length x = length (shortest x.raft_group_id) + (1 + item_content_length x.content)
 
--- the length of tails and the total after them, or that one is too large
-unfoldable pub tails_size : List ℕ → ℕ → TailsSize
-tails_size lengths t = cond (tail_above lengths t) TooLarge (Fine (fitted (length (tails_bytes lengths t))) (sum_of t lengths))
+-- the length of tails behind what has the length n, and the total after them; 16 where one is too large
+unfoldable pub tails_size : ℕ → List ℕ → ℕ → Result (ℕ × ℕ) Reason
+tails_size n lengths t = do
+  not (tail_above lengths t) else Err TailTooLarge
+  Ok (fitted (n + length (tails_bytes lengths t)), sum_of t lengths)
