@@ -4,7 +4,7 @@ ghost use Rattle.log_item.specs.Refusing.{op_inside, content_inside, entries_ref
 ghost use Rattle.log_item.specs.Written.{piece_refusal};
 
 use crate::prefix::{is_internal_key, lies_in};
-use crate::{EntryIndexes, KeyValue, LogItemContent, Op};
+use crate::{ENTRIES_MAX, EntryIndexes, KeyValue, LogItemContent, Op};
 use refusal::Reason;
 
 // Of a content that is to be written: why it is refused, but for 16.
@@ -30,7 +30,7 @@ fn entries_refusal(e: EntryIndexes, used: usize, rows: usize) -> Result<(), Reas
     ensures { result ≡ entries_refusal used rows e }
 {
     let n = e.count;
-    if 1024 < used || 1024 - used < n {
+    if ENTRIES_MAX < used || ENTRIES_MAX - used < n {
         return Err(Reason::EntriesTooMany);
     }
     if n == 0 {
