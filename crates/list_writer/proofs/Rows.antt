@@ -69,6 +69,12 @@ none_behind [] h = refl
 none_behind (Ok x ∷ rows) h = ap suc (none_behind rows h)
 none_behind (Err r ∷ rows) h = cc
 
+-- Where all rows are items, so is each.
+pub each_item : (rows : List Row) (i : ℕ) (row : Row) → get_or rows i row ≡ row → i < length rows → length (items_before rows) ≡ length rows
+    → (x : LogItem) × (row ≡ Ok x)
+each_item rows i (Ok x) e h a = (x, refl)
+each_item rows i (Err r) e h a = absurd (omega (arith, (none_there rows i r e h (omega arith)).0))
+
 -- What stands at a place of a list, by a function on its elements.
 pub at_map : {A B : Type 0} (f : A → B) (xs : List A) (i : ℕ) (x : A) → x ≡ get_or xs i x → get_or (map f xs) i (f x) ≡ f x
 at_map f xs i x e = get_or-map f xs i x ∙ ap f (sym e)
