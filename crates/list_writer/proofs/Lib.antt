@@ -1,4 +1,3 @@
-pub mod Tables
 pub mod Heads
 pub mod Rest
 pub mod Measuring
@@ -6,3 +5,5 @@ pub mod Rows
 pub mod Pieces
 pub mod Writing
 pub mod Bodies
+pub mod Tables
+pub mod Determined

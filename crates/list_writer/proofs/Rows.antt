@@ -91,7 +91,7 @@ module _ (s : List ℕ) (checked : Bool) (rows : List Row) (ns : List ℕ) where
   rows_9 h = rw (lt-leb (length rows) 256 h)
 
   -- A list of items alone is measured as they are.
-  all_measured : row_behind rows ≡ fine → measure_of s checked (items_before rows) ns ≡ rows_measure s checked rows ns
+  pub all_measured : row_behind rows ≡ fine → measure_of s checked (items_before rows) ns ≡ rows_measure s checked rows ns
   unfolding rows_measure rows_verdict measure_of list_verdict
   all_measured b = rw (none_behind rows b, b, id (items_verdict s checked (items_before rows) ns 0 0 0))
     where

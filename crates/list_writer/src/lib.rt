@@ -5,8 +5,8 @@
 #![tactic(auto)]
 
 ghost use Rattle.std.specs.Prelude.{◌≡◌, Ok, length, map};
-ghost use Rattle.list_writer.specs.Bytes.{body_bytes};
-ghost use Rattle.list_writer.specs.Answers.{measured_of, encoded_in, MeasuredWritten};
+ghost use Rattle.list_writer.specs.Bytes.{items_of, lengths_of, body_bytes};
+ghost use Rattle.list_writer.specs.Answers.{measured_of, measure_of, encoded_in, MeasuredWritten};
 ghost use Rattle.list_writer.specs.Refusing.{at_item};
 ghost use Rattle.list_writer.specs.Private.{row_head};
 ghost use Rattle.list_writer.specs.Rows.{rows_measure, rows_bytes};
@@ -21,11 +21,36 @@ pub const BODY_LEN_MAX: usize = 4294967295;
 
 const FOOTER_LEN: usize = 4;
 
+// Why a list of more than 256 items is refused.
+const MANY: Refusal = Refusal {
+    reason: Reason::ItemsTooMany,
+    item: 0,
+};
+
 // The length of a body, footer included, and the sum of its entry lengths.
 #[derive(Clone, Copy)]
 pub struct Measured {
     pub length: usize,
     pub total: u32,
+}
+
+// The first refusal of a body but 21, or its length and entry total: of a table's rows, as many as it says.
+#[tactic(auto, using(crate::proofs::Tables::table_many, crate::proofs::Tables::table_measured))]
+pub fn measure(
+    items: [LogItem; 256],
+    item_count: usize,
+    entries: [EntryIndex; 1024],
+    entry_count: usize,
+    store: &[u8],
+    checked: bool,
+) -> Result<Measured, Refusal>
+    ensures { result ≡ measure_of store.now checked (items_of items item_count) (lengths_of entries entry_count) }
+{
+    if 256 < item_count {
+        return Err(MANY);
+    }
+    let rows = &entries[..entry_count.min(1024)];
+    measure_rows(&items[..item_count], rows, store, checked)
 }
 
 // The first refusal of a list but 21, or the length of its body and its entry total.
@@ -38,10 +63,7 @@ pub fn measure_rows<I: ItemRow, E: EntryRow>(
     ensures { result ≡ rows_measure store.now checked (map I.spelled items.now) (map E.length entries.now) }
 {
     if 256 < items.len() {
-        return Err(Refusal {
-            reason: Reason::ItemsTooMany,
-            item: 0,
-        });
+        return Err(MANY);
     }
     let mut size = codec::var_u64_len(items.len() as u64);
     let mut used: usize = 0;
@@ -99,7 +121,28 @@ pub fn finish(size: usize, total: u32) -> Result<Measured, Refusal>
     })
 }
 
-// Writes the body at a place of out and answers how many bytes it has, or leaves out as it was and says why.
+// Writes the body of a table's rows at a place of out and answers how many bytes it has, or leaves out as it was and says why.
+pub fn encode(
+    items: [LogItem; 256],
+    item_count: usize,
+    entries: [EntryIndex; 1024],
+    entry_count: usize,
+    store: &[u8],
+    signature: u32,
+    checked: bool,
+    out: &mut [u8],
+    at: usize,
+) -> Result<usize, Refusal>
+    ensures { MeasuredWritten (measure_of store.now checked (items_of items item_count) (lengths_of entries entry_count)) (body_bytes store.now (items_of items item_count) (lengths_of entries entry_count) signature) out.old at result out.new }
+{
+    if 256 < item_count {
+        return Err(MANY);
+    }
+    let rows = &entries[..entry_count.min(1024)];
+    encode_rows(&items[..item_count], rows, store, signature, checked, out, at)
+}
+
+// Writes the body of a list at a place of out and answers how many bytes it has, or leaves out as it was and says why.
 pub fn encode_rows<I: ItemRow, E: EntryRow>(
     items: &[I],
     entries: &[E],
