@@ -1,4 +1,4 @@
--- `list_writer::measure_rows` meets its contract. The loops' invariants: the rows so far are items, and the size so far and the verdict on what is
+-- `list_writer::measure_list` meets its contract. The loops' invariants: the rows so far are items, and the size so far and the verdict on what is
 -- left give those of the whole list.
 -- Assumes nothing.
 use mathlib.Core.Path.{◌≡◌, refl, sym, ap, ◌∙◌}
@@ -9,7 +9,7 @@ use Rattle.std.proofs.Common.{rules}
 use Rattle.codec.specs.Shortest.{shortest}
 use Rattle.list_writer.proofs.Measuring.{Measuring, measuring_start, measuring_entry, measuring_same}
 use Rattle.list_writer.proofs.Rows.{at_map, entry_at, rows_9, rows_item, rows_refused, rows_entry_refused, rows_end}
-use Rattle.list_writer.proofs.measure_rows.Goals as goal
+use Rattle.list_writer.proofs.measure_list.Goals as goal
 
 pub returns-then-items-gt256 : goal.returns-then-items-gt256
 returns-then-items-gt256 g c = rows_9 _ _ _ _ (omega (arith, length-map c.args.items.now g.I.ItemRow.spelled))

@@ -1,4 +1,4 @@
--- `list_writer::encode_rows` meets its contract. The loops' invariant, `Writing`: what is left, stored from here on, completes count and items.
+-- `list_writer::encode_list` meets its contract. The loops' invariant, `Writing`: what is left, stored from here on, completes count and items.
 -- Assumes nothing.
 use mathlib.Core.Path.{◌≡◌, refl, sym, ap, ◌∙◌}
 use Prim.Native.Nat.{ℕ, ◌+◌, ◌-◌, ◌≤◌}
@@ -9,27 +9,27 @@ use Rattle.log_item.specs.declared.EntryIndexes.{EntryIndexes}
 use Rattle.list_writer.proofs.Rows.{at_map, entry_at, item_there, each_item, rows_accepted}
 use Rattle.list_writer.proofs.Writing.{Writing, row_low, item_rows, writing_item, writing_entry, writing_same}
 use Rattle.list_writer.proofs.Bodies.{accepted, writing_begins, body_stored, body_length, placing_told, refused_laid, short_laid, all_laid}
-use Rattle.list_writer.proofs.encode_rows.Goals as goal
+use Rattle.list_writer.proofs.encode_list.Goals as goal
 
 pub returns-in_err-m : goal.returns-in_err-m
 returns-in_err-m g c =
     let q : c.from_residual.result ≡ Err c.in_err-m.field-0.0 = search rules in
-    rw q (refused_laid _ _ _ (sym c.measure_rows.ensures ∙ c.in_err-m.was))
+    rw q (refused_laid _ _ _ (sym c.measure_list.ensures ∙ c.in_err-m.was))
 
 pub returns-in_err-length : goal.returns-in_err-length
 returns-in_err-length g c =
     let q : c.from_residual-in_err-length.result ≡ Err c.in_err-length.field-0.0 = search rules in
-    rw q (short_laid _ _ _ (sym c.measure_rows.ensures ∙ c.in_ok-m.was) (sym c.in_err-length.was ∙ c.placing.ensures))
+    rw q (short_laid _ _ _ (sym c.measure_list.ensures ∙ c.in_ok-m.was) (sym c.in_err-length.was ∙ c.placing.ensures))
 
 pub loop-row-init : goal.loop-row-init
 loop-row-init g c =
-    let e = rows_accepted _ _ _ _ c.in_ok-m.m (sym c.in_ok-m.was ∙ c.measure_rows.ensures) in
+    let e = rows_accepted _ _ _ _ c.in_ok-m.m (sym c.in_ok-m.was ∙ c.measure_list.ensures) in
     let p = placing_told c.in_ok-m.m _ c.args.at (sym c.in_ok-length.was ∙ c.placing.ensures) in
     record { bytes = writing_begins (accepted _ _ _ _ c.in_ok-m.m e.0) p.0 (e.1 ∙ length-map c.args.items.now g.I.ItemRow.spelled) c.put_var_u64-next.ensures }
 
 pub returns-in_default : goal.returns-in_default
 returns-in_default g c =
-    let e = rows_accepted _ _ _ _ c.in_ok-m.m (sym c.in_ok-m.was ∙ c.measure_rows.ensures) in
+    let e = rows_accepted _ _ _ _ c.in_ok-m.m (sym c.in_ok-m.was ∙ c.measure_list.ensures) in
     let n = length-map c.args.items.now g.I.ItemRow.spelled in
     let there = at_map g.I.ItemRow.spelled c.args.items.now c.loop-row.row-index _ c.row-item.is in
     let p = each_item _ c.loop-row.row-index _ there (omega (arith, n)) (e.1) in
@@ -90,11 +90,11 @@ loop-entry-preserved g c =
 
 pub returns : goal.returns
 returns g c =
-    let e = rows_accepted _ _ _ _ c.in_ok-m.m (sym c.in_ok-m.was ∙ c.measure_rows.ensures) in
+    let e = rows_accepted _ _ _ _ c.in_ok-m.m (sym c.in_ok-m.was ∙ c.measure_list.ensures) in
     let n = length-map c.args.items.now g.I.ItemRow.spelled in
     let a = accepted _ _ _ _ c.in_ok-m.m e.0 in
     let q = sym c.in_ok-length.was ∙ c.placing.ensures in
     let p = placing_told c.in_ok-m.m _ c.args.at q in
     let l = body_length c.args.signature a in
-    all_laid _ _ _ (sym c.measure_rows.ensures ∙ c.in_ok-m.was) q l (omega (arith, a.whole))
+    all_laid _ _ _ (sym c.measure_list.ensures ∙ c.in_ok-m.was) q l (omega (arith, a.whole))
     (body_stored a p.0 c.loop-row.invariant.bytes (omega arith) (omega (arith, n, e.1)) c.args.signature c.write_footer.ensures)
