@@ -6,12 +6,9 @@ ghost use Rattle.log_item.specs.Reading.{entry_count_of, first_index_of, tail};
 ghost use Rattle.log_item.specs.Passing.{as_tail, pass_tails};
 
 use crate::piece::read_number_in;
-use crate::{EntryIndexes, Form};
+use crate::{ENTRIES_MAX, EntryIndexes, Form};
 use refusal::Reason;
 use words::Piece;
-
-// How many entries a batch may have.
-const ENTRIES_MAX: usize = 1024;
 
 // A count of entries, with `used` before them in the batch.
 #[tactic(auto, unfolding(crate::specs::Reading::entry_count_of))]
