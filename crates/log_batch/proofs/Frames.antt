@@ -1,6 +1,6 @@
 -- What reading a header, the front of a batch and the whole come to.
 -- Assumes nothing.
-use Rattle.std.proofs.Common.{◌≡◌, ℕ, ◌-◌, ◌/◌, ◌%◌, ◌≤◌, List, length, take, drop, Option, Some, None, Ok, Err, sym, refl, ap, ◌∙◌, arith, length-drop, length-take, eq-eqb, ne_eqb, le-leb}
+use Rattle.std.proofs.Common.{◌≡◌, ℕ, ◌-◌, ◌/◌, ◌%◌, ◌≤◌, List, length, take, drop, true, false, is_some, Some, Ok, Err, sym, refl, ap, ◌∙◌, arith, length-drop, length-take, eq-eqb, ne_eqb, le-leb}
 use Rattle.refusal.specs.First.{Checked, fine}
 use Rattle.refusal.specs.declared.Reason.{Reason}
 use Rattle.refusal.specs.declared.Reason.TheVariants.{BatchShort, BlockDiffers, Compressed, CompressionUnknown, HeaderShort, OffsetAboveLength, OffsetBelowHeader}
@@ -81,10 +81,10 @@ passing_holds (Err r) p = refuses
 
 -- ---- the table
 
-pub table_refused : (s : List ℕ) (signature : ℕ) {r : Reason} {t : LogItemBatch} → front_batch s 0 ≡ refused r
-    → t ≡ empty_table (Some (record { reason = r; item = 0 })) → t ≡ read_batch s signature
+pub table_refused : (s : List ℕ) (signature : ℕ) {r : Reason} {x : Refusal} {t : LogItemBatch} → front_batch s 0 ≡ refused r
+    → t ≡ empty_table (Some x) → x ≡ record { reason = r; item = 0 } → t ≡ read_batch s signature
 unfolding read_batch table_of
-table_refused s signature e f = rw e f
+table_refused s signature e f h = rw (e, ← h) f
 
 -- Where the front is right, the table is that of the body's reading, whose entry total is held to the block.
 table_of_lem : (s : List ℕ) (signature : ℕ) {h : LogBatch} {q : ℕ} → front_batch s 0 ≡ got h q
@@ -110,39 +110,40 @@ with_places body block t =
 
 module _ (body block : Span) (n : ℕ) where
   -- A refusal stays as it is.
-  held_refused : (k l : Span) (a : Answer) {t : LogItemBatch} {r : Refusal} → t ≡ table_of k l a → t.refusal ≡ Some r → t ≡ table_of body block (agreeing (Some n) a)
+  held_refused : (k l : Span) (a : Answer) {t : LogItemBatch} → t ≡ table_of k l a → true ≡ is_some t.refusal → t ≡ table_of body block (agreeing (Some n) a)
   unfolding table_of
-  held_refused k l (accepted xs rows u q) e h = let z = ap (λ (x : LogItemBatch). x.refusal) e in cc
+  held_refused k l (accepted xs rows u q) e h = let z = ap (λ (x : LogItemBatch). is_some x.refusal) e in cc
   held_refused k l (rejected r i) e h = e
 
   -- Another total is a 20.
-  held_other : (k l : Span) (a : Answer) {t x : LogItemBatch} → t ≡ table_of k l a → t.refusal ≡ None → (t.total ≡ n → ⊥)
-      → x ≡ empty_table (Some (record { reason = BlockDiffers; item = 0 })) → x ≡ table_of body block (agreeing (Some n) a)
+  held_other : (k l : Span) (a : Answer) {t x : LogItemBatch} {y : Refusal} → t ≡ table_of k l a → false ≡ is_some t.refusal → (t.total ≡ n → ⊥)
+      → x ≡ empty_table (Some y) → y ≡ record { reason = BlockDiffers; item = 0 } → x ≡ table_of body block (agreeing (Some n) a)
   unfolding table_of
-  held_other k l (accepted xs rows u q) e none other f =
+  held_other k l (accepted xs rows u q) e none other f h =
       let o : u ≡ n → ⊥ = λ z. other (ap (λ (y : LogItemBatch). y.total) e ∙ z) in
-      rw (ne_eqb u n o) f
-  held_other k l (rejected r i) e none other f = let z = ap (λ (x : LogItemBatch). x.refusal) e in cc
+      rw (ne_eqb u n o, ← h) f
+  held_other k l (rejected r i) e none other f h = let z = ap (λ (x : LogItemBatch). is_some x.refusal) e in cc
 
   -- The total that is wanted: the places are stated.
-  held_same : (k l : Span) (a : Answer) {t : LogItemBatch} → t ≡ table_of k l a → t.refusal ≡ None → t.total ≡ n
+  held_same : (k l : Span) (a : Answer) {t : LogItemBatch} → t ≡ table_of k l a → false ≡ is_some t.refusal → t.total ≡ n
       → with_places body block t ≡ table_of body block (agreeing (Some n) a)
   unfolding table_of
   held_same k l (accepted xs rows u q) e none same =
       let o : u ≡ n = sym (ap (λ (y : LogItemBatch). y.total) e) ∙ same in
       rw (eq-eqb u n o) (ap (with_places body block) e)
-  held_same k l (rejected r i) e none same = let z = ap (λ (x : LogItemBatch). x.refusal) e in cc
+  held_same k l (rejected r i) e none same = let z = ap (λ (x : LogItemBatch). is_some x.refusal) e in cc
 
 module _ (s : List ℕ) (signature : ℕ) {h : LogBatch} {q : ℕ} (e : front_batch s 0 ≡ got h q) (k l : Span) {t : LogItemBatch}
     (read : t ≡ table_of k l (read_body (body_of h s) signature)) where
-  pub table_stays : {r : Refusal} → t.refusal ≡ Some r → t ≡ read_batch s signature
+  pub table_stays : true ≡ is_some t.refusal → t ≡ read_batch s signature
   table_stays some = held_refused _ _ _ k l (read_body (body_of h s) signature) read some ∙ sym (table_of_lem s signature e)
 
-  module _ (none : t.refusal ≡ None) {n : ℕ} (size : n ≡ h.offset - 16 - 4) where
-    pub table_differs : {x : LogItemBatch} → (t.total ≡ n → ⊥) → x ≡ empty_table (Some (record { reason = BlockDiffers; item = 0 })) → x ≡ read_batch s signature
-    table_differs other f =
+  module _ (none : false ≡ is_some t.refusal) {n : ℕ} (size : n ≡ h.offset - 16 - 4) where
+    pub table_differs : {x : LogItemBatch} {y : Refusal} → (t.total ≡ n → ⊥) → x ≡ empty_table (Some y) → y ≡ record { reason = BlockDiffers; item = 0 }
+        → x ≡ read_batch s signature
+    table_differs other f places =
         let o : t.total ≡ h.offset - 16 - 4 → ⊥ = λ z. other (z ∙ sym size) in
-        held_other _ _ _ k l (read_body (body_of h s) signature) read none o f ∙ sym (table_of_lem s signature e)
+        held_other _ _ _ k l (read_body (body_of h s) signature) read none o f places ∙ sym (table_of_lem s signature e)
 
     pub table_placed : t.total ≡ n
         → with_places (record { at = h.offset; len = h.len - h.offset }) (record { at = 16; len = h.offset - 16 }) t ≡ read_batch s signature
