@@ -1,6 +1,7 @@
 -- What reading a header, the front of a batch and the whole come to.
 -- Assumes nothing.
-use Rattle.std.proofs.Common.{◌≡◌, ℕ, ◌-◌, ◌/◌, ◌%◌, ◌≤◌, List, length, take, drop, true, false, is_some, Some, Ok, Err, sym, refl, ap, ◌∙◌, arith, length-drop, length-take, eq-eqb, ne_eqb, le-leb}
+use Rattle.std.proofs.Common.{◌≡◌, ℕ, ◌-◌, ◌/◌, ◌%◌, ◌<◌, ◌≤◌, List, length, take, drop, true, false, is_some, Some, Ok, Err, sym, refl, ap, ◌∙◌, arith, length-drop, length-take, eq-eqb, ne_eqb, le-leb}
+use borrow.Author.Tests.{lt-leb}
 use Rattle.refusal.specs.First.{Checked, fine}
 use Rattle.refusal.specs.declared.Reason.{Reason}
 use Rattle.refusal.specs.declared.Reason.TheVariants.{BatchShort, BlockDiffers, Compressed, CompressionUnknown, HeaderShort, OffsetAboveLength, OffsetBelowHeader}
@@ -21,12 +22,30 @@ use Rattle.log_batch.specs.Batch.{block_of, body_of, passing, front_batch, read_
 
 -- ---- the header
 
-pub frame_good : (first second : ℕ) → first % 256 ≤ 1 → second ≤ first / 256 → 16 ≤ second
-    → frame first second 0 ≡ got (record { offset = second; len = first / 256; compression = first % 256 }) 16
-unfolding frame
-frame_good first second known inside h = rw (le-leb _ _ known, le-leb _ _ inside, le-leb _ _ h)
+module _ (first second : ℕ) where
+  pub frame_type : 1 < first % 256 → frame first second 0 ≡ refused CompressionUnknown
+  unfolding frame
+  frame_type h = rw (lt-leb _ _ h)
+
+  module _ (known : first % 256 ≤ 1) where
+    pub frame_above : first / 256 < second → frame first second 0 ≡ refused OffsetAboveLength
+    unfolding frame
+    frame_above h = rw (le-leb _ _ known, lt-leb _ _ h)
+
+    module _ (inside : second ≤ first / 256) where
+      pub frame_below : second < 16 → frame first second 0 ≡ refused OffsetBelowHeader
+      unfolding frame
+      frame_below h = rw (le-leb _ _ known, le-leb _ _ inside, lt-leb _ _ h)
+
+      pub frame_good : 16 ≤ second → frame first second 0 ≡ got (record { offset = second; len = first / 256; compression = first % 256 }) 16
+      unfolding frame
+      frame_good h = rw (le-leb _ _ known, le-leb _ _ inside, le-leb _ _ h)
 
 module _ (s : List ℕ) where
+  pub header_short : length s < 16 → header s 0 ≡ refused HeaderShort
+  unfolding header
+  header_short h = rw (lt-leb _ _ h)
+
   frame_holds : (first second p : ℕ) → Holds (λ h q. (16 ≤ h.offset) × (h.offset ≤ h.len)) (frame first second p)
   unfolding frame
   frame_holds first second p =
@@ -45,10 +64,19 @@ module _ (s : List ℕ) where
 
   -- ---- the batch up to its block
 
-  pub front_good : {h : LogBatch} {q : ℕ} → header s 0 ≡ got h q → h.len ≤ length s → h.compression ≡ 0 → block_check (block_of h s) ≡ fine
-      → front_batch s 0 ≡ got h q
-  unfolding front_batch
-  front_good e there none good = rw (e, le-leb _ _ there, eq-eqb _ _ none, good)
+  module _ {h : LogBatch} {q : ℕ} (e : header s 0 ≡ got h q) where
+    pub front_short : length s < h.len → front_batch s 0 ≡ refused BatchShort
+    unfolding front_batch
+    front_short k = rw (e, lt-leb _ _ k)
+
+    module _ (there : h.len ≤ length s) where
+      pub front_compressed : (h.compression ≡ 0 → ⊥) → front_batch s 0 ≡ refused Compressed
+      unfolding front_batch
+      front_compressed k = rw (e, le-leb _ _ there, ne_eqb _ _ k)
+
+      pub front_good : h.compression ≡ 0 → block_check (block_of h s) ≡ fine → front_batch s 0 ≡ got h q
+      unfolding front_batch
+      front_good none good = rw (e, le-leb _ _ there, eq-eqb _ _ none, good)
 
   -- Its body starts after the header and lies in the bytes.
   pub record Front (h : LogBatch) : Type 0 where

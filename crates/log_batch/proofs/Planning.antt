@@ -1,14 +1,17 @@
--- What a whole batch comes to before it is written: the lengths of its parts, and what its answer tells.
+-- What a whole batch comes to before it is written: the lengths of its parts, what its answer tells, and where it is refused.
 -- Assumes nothing.
-use Rattle.std.proofs.Common.{◌≡◌, ℕ, ◌+◌, ◌*◌, ◌≤◌, Bool, true, false, cond, not, ◌&&◌, eqb, leb, List, [], ◌++◌, length, Result, Ok, Err, refl, ap, ◌∙◌, arith, length-append, eq-eqb, ne_eqb, eqb-true, leb-true}
+use Rattle.std.proofs.Common.{◌≡◌, ℕ, ◌+◌, ◌*◌, ◌<◌, ◌≤◌, Bool, true, false, cond, not, ◌&&◌, eqb, leb, ◌⊎◌, List, [], ◌++◌, length, Result, Ok, Err, refl, ap, ◌∙◌, inl, inr, arith, length-append, eq-eqb, ne_eqb, eqb-true, le-leb, leb-true}
+use mathlib.Core.Bool.{and-false}
 use lib.Bits.{xor_zero_r}
-use borrow.Author.Tests.{eqb-false}
+use borrow.Author.Tests.{lt-leb, eqb-false}
 use Rattle.words.specs.Word.{big_endian_bytes, little_endian_bytes}
 use Rattle.words.proofs.Words.{length_big, length_little}
 use Rattle.crc.specs.Crc.{crc_of}
+use Rattle.refusal.specs.declared.Reason.TheVariants.{BlockDiffers, OutputShort, OutputTooLong}
 use Rattle.refusal.specs.declared.Refusal.{Refusal}
 use Rattle.list_writer.specs.declared.Measured.{Measured}
 use Rattle.list_writer.specs.Bytes.{footed}
+use Rattle.list_writer.specs.Refusing.{refused}
 use Rattle.log_batch.specs.Front.{block_bytes, body_offset, header_bytes, front_bytes, batch_encoded}
 
 -- ---- lengths
@@ -83,3 +86,28 @@ planned m items content room {n} told h = start (not (eqb items 0 && eqb (length
     start true (Ok b) e f = fine b e f
     start true (Err r) e f = cc
     start false k e f = let z : 0 ≡ n = cc in absurd (h (omega arith))
+
+-- ---- where it is refused
+
+something : (items content : ℕ) → (items ≡ 0 → ⊥) ⊎ (content ≡ 0 → ⊥) → (eqb items 0 && eqb content 0) ≡ false
+something items content (inl h) = rw (ne_eqb items 0 h)
+something items content (inr h) = rw (ne_eqb content 0 h) (and-false (eqb items 0))
+
+module _ (b : Measured) (items : ℕ) (content : List ℕ) (room : ℕ) (some : (items ≡ 0 → ⊥) ⊎ (length content ≡ 0 → ⊥)) where
+  pub refused_body : (r : Refusal) → batch_encoded (Err r) items content room ≡ Err r
+  unfolding batch_encoded
+  refused_body r = rw (something items (length content) some)
+
+  pub refused_22 : 2147483647 < b.total → batch_encoded (Ok b) items content room ≡ refused OutputTooLong 0
+  unfolding batch_encoded
+  refused_22 h = rw (something items (length content) some, lt-leb b.total 2147483647 h)
+
+  module _ (few : b.total ≤ 2147483647) where
+    pub refused_20 : (b.total ≡ length content → ⊥) → batch_encoded (Ok b) items content room ≡ refused BlockDiffers 0
+    unfolding batch_encoded
+    refused_20 h = rw (something items (length content) some, le-leb b.total 2147483647 few, ne_eqb b.total (length content) h)
+
+    pub refused_21 : b.total ≡ length content → room < body_offset content + b.length → batch_encoded (Ok b) items content room ≡ refused OutputShort 0
+    unfolding batch_encoded
+    refused_21 same h =
+        rw (something items (length content) some, le-leb b.total 2147483647 few, eq-eqb b.total (length content) same, lt-leb _ _ h)
