@@ -11,7 +11,7 @@ use Rattle.log_item.specs.declared.Form.TheVariants.{Any}
 use Rattle.log_batch.specs.Seal.{sealed_length, sealed_part, footer, seal_check, block_check}
 use Rattle.log_batch.specs.Reading.{rejected, read_items}
 use Rattle.log_batch.specs.Body.{read_body}
-use Rattle.log_batch.proofs.Planning.{passes_on}
+use Rattle.list_writer.proofs.Heads.{else_fine}
 
 -- The word at the last four bytes is the footer.
 pub footer_read : (b : List ℕ) → 4 < length b → read_u32 b (sealed_length b) ≡ Some (piece (footer b) (sealed_length b + 4))
@@ -43,8 +43,8 @@ pub record Sealed (b : List ℕ) (signature : ℕ) : Type 0 where
 pub sealed : (b : List ℕ) (signature : ℕ) → seal_check b signature ≡ fine → Sealed b signature
 unfolding seal_check
 sealed b signature e =
-    let p = passes_on (ltb 4 (length b)) _ e in
-    let q = passes_on (eqb (footer b) (bit_xor (crc_of (sealed_part b)) signature)) _ p.1 in
+    let p = else_fine (ltb 4 (length b)) _ _ e in
+    let q = else_fine (eqb (footer b) (bit_xor (crc_of (sealed_part b)) signature)) _ _ p.1 in
     record { long = ltb-true _ _ p.0; right = eqb-true _ _ q.0 }
 
 -- A seal that is not broken has more than four bytes.
