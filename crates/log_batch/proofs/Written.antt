@@ -40,20 +40,20 @@ module _ (s : List ℕ) (checked : Bool) (xs : List LogItem) (ns : List ℕ) {b 
 
 -- So are those of a list, for any measure that is the list's own unless it is refused.
 pub own_sized : {m : Result Measured Refusal} (s : List ℕ) (checked : Bool) (xs : List LogItem) (ns : List ℕ) (signature : ℕ)
-    → ({b : Measured} → m ≡ Ok b → measure_of s checked xs ns ≡ Ok b) → Sized m (body_bytes s xs ns signature)
+    → ((b : Measured) → m ≡ Ok b → measure_of s checked xs ns ≡ Ok b) → Sized m (body_bytes s xs ns signature)
 own_sized {m} s checked xs ns signature own =
     record {
       small = go m own;
-      long = λ e. body_length signature (accepted s checked xs ns _ (sym (own e)));
-      some = λ e z. body_some s checked xs ns (own e) z;
+      long = λ e. body_length signature (accepted s checked xs ns _ (sym (own _ e)));
+      some = λ e z. body_some s checked xs ns (own _ e) z;
     }
   where
-    go : (k : Result Measured Refusal) → ({b : Measured} → k ≡ Ok b → measure_of s checked xs ns ≡ Ok b) → measured_length k ≤ 4294967295
-    go (Ok b) f = body_small s checked xs ns (f refl)
+    go : (k : Result Measured Refusal) → ((b : Measured) → k ≡ Ok b → measure_of s checked xs ns ≡ Ok b) → measured_length k ≤ 4294967295
+    go (Ok b) f = body_small s checked xs ns (f b refl)
     go (Err r) f = omega arith
 
 pub list_sized : (s : List ℕ) (checked : Bool) (xs : List LogItem) (ns : List ℕ) (signature : ℕ) → Sized (measure_of s checked xs ns) (body_bytes s xs ns signature)
-list_sized s checked xs ns signature = own_sized s checked xs ns signature (λ e. e)
+list_sized s checked xs ns signature = own_sized s checked xs ns signature (λ b e. e)
 
 -- An answer of no bytes leaves the buffer as it was.
 pub nothing_laid : (r : Result ℕ Refusal) → written_length r ≡ 0 → (out bs : List ℕ) (at : ℕ) → laid r out at bs ≡ out
