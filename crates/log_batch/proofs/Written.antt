@@ -1,6 +1,6 @@
 -- Writing a whole batch: the body behind header and block, and what the contract then tells.
 -- Assumes nothing.
-use Rattle.std.proofs.Common.{◌≡◌, ℕ, ◌+◌, ◌-◌, ◌^◌, ◌<◌, ◌≤◌, Bool, true, false, eqb, leb, List, ◌++◌, length, take, drop, Result, Ok, Err, sym, refl, ap, ◌∙◌, append_assoc, arith, length-append, length-take-le, take_at, drop_at, ne_eqb, eq-eqb, eqb-true, le-leb, leb-true}
+use Rattle.std.proofs.Common.{◌≡◌, ℕ, ◌+◌, ◌-◌, ◌^◌, ◌<◌, ◌≤◌, Bool, List, ◌++◌, length, take, drop, Result, Ok, Err, sym, refl, ap, ◌∙◌, append_assoc, arith, length-append, length-take-le, take_at, drop_at, ne_eqb, eq-eqb, le-leb}
 use lib.Seq.{sets-eq}
 use Rattle.refusal.specs.declared.Refusal.{Refusal}
 use Rattle.log_item.specs.declared.LogItem.{LogItem}
@@ -8,11 +8,11 @@ use Rattle.log_item.specs.Private.{Stored}
 use Rattle.words.specs.Write.{placed}
 use Rattle.log_item.proofs.Stores.{stored_then, stored_length, stored_same, stored_placed}
 use Rattle.list_writer.specs.declared.Measured.{Measured}
-use Rattle.list_writer.specs.Answers.{measure_of, encoded_in, encoded_of, laid, MeasuredWritten}
+use Rattle.list_writer.specs.Answers.{measure_of, encoded_of, laid, MeasuredWritten}
 use Rattle.list_writer.specs.Bytes.{list_bytes, body_bytes}
 use Rattle.list_writer.specs.Refusing.{list_verdict}
 use Rattle.list_writer.proofs.Measuring.{sized_where}
-use Rattle.list_writer.proofs.Bodies.{accepted, body_length, placing_fits, placing_told}
+use Rattle.list_writer.proofs.Bodies.{accepted, body_length, placing_told}
 use Rattle.log_batch.specs.Front.{body_offset, front_bytes, batch_encoded, measured_length, written_length, FrontWritten}
 use Rattle.log_batch.proofs.Planning.{Planned, block_small, front_length, planned}
 use Rattle.log_batch.proofs.Fronts.{begun_told, begun_plan, front_stored}
@@ -72,6 +72,10 @@ module _ {m k : Result Measured Refusal} (same : m ≡ k) {body : List ℕ} (siz
   pub batch_left : written_length r ≡ 0 → BatchWritten k items content body out r mid
   batch_left h =
       record { answer = answers; written = begun.front ∙ nothing_laid r h out _ 0 ∙ sym (nothing_laid r h out (framed content body) 0) }
+
+  -- Where some bytes are answered the body is not refused.
+  pub never_refused : {n : ℕ} → r ≡ Ok n → (n ≡ 0 → ⊥) → {x : Refusal} → m ≡ Err x → ⊥
+  never_refused e h g = let p = planned items content (length out) m (sym (begun_told begun begun_small) ∙ e) h in let f = p.1 in cc
 
   module _ {n : ℕ} (e : r ≡ Ok n) (h : n ≡ 0 → ⊥) {b : Measured} (g : m ≡ Ok b) where
     plan : Planned b content (length out) n
