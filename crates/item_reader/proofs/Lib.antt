@@ -1,6 +1,3 @@
-pub mod Walking
-pub mod RawIn
-pub mod Lent
 pub mod RowLaws
 pub mod ItemLaws
 pub mod OpenLaws

@@ -1,32 +1,27 @@
--- What starting on a body comes to: a law for each way out of the code.
+-- What starting on a body comes to, by what the check of it answers.
 -- Assumes nothing.
-use Rattle.std.proofs.Common.{◌≡◌, ℕ, ◌-◌, List, length, take}
+use Rattle.std.proofs.Common.{◌≡◌, ℕ, List, Option, Some, None, Ok, Err}
 use Rattle.refusal.specs.declared.Refusal.{Refusal}
-use Rattle.log_item.specs.Got.{got, refused}
-use Rattle.log_item.specs.Pieces.{number}
-use Rattle.log_item.specs.declared.Form.TheVariants.{Any}
-use Rattle.log_batch.specs.declared.BodyCheck.TheVariants.{Accepted, Refused}
+use Rattle.log_batch.specs.declared.BodyCheck.{BodyCheck}
+use Rattle.log_batch.specs.Seal.{sealed_part}
+use Rattle.log_batch.specs.Reading.{Answer, accepted, rejected}
 use Rattle.log_batch.specs.Body.{read_body}
 use Rattle.log_batch.specs.Answers.{check_of}
-use Rattle.log_batch.proofs.Checking.{acceptance_told, refusal_told}
-use Rattle.item_reader.specs.declared.Cursor.{Cursor}
-use Rattle.item_reader.specs.Cursor.{after_count, started}
+use Rattle.item_reader.specs.Cursor.{at_first, start_by, after_count, started}
 
-pub count_read : (s : List ℕ) {n q : ℕ} → number Any s 0 ≡ got n q → q ≡ after_count s
-unfolding after_count
-count_read s e = rw e
+by_check : (p : ℕ) (a : Answer) {k : BodyCheck} → Ok k ≡ check_of a → at_first p k.items None ≡ start_by p a
+by_check p (accepted xs rows u q) e = cc
+by_check p (rejected r i) e = absurd (cc)
 
-pub no_count : (s : List ℕ) {n : ℕ} → number Any s 0 ≡ refused n → 0 ≡ after_count s
-unfolding after_count
-no_count s e = rw e
+by_refusal : (p : ℕ) (a : Answer) {why : Refusal} → Err why ≡ check_of a → at_first 0 0 (Some why) ≡ start_by p a
+by_refusal p (accepted xs rows u q) e = absurd (cc)
+by_refusal p (rejected r i) e = cc
 
 module _ (body : List ℕ) (signature : ℕ) where
-  pub starts : {m e u q n p : ℕ} → Accepted m e u q ≡ check_of (read_body body signature) → n ≡ length body - 4 → p ≡ after_count (take n body)
-      → ◌≡◌ {A = Cursor} (record { at = p; total = 0; used = 0; item = 0; count = m; refusal = record { number = 0; item = 0 } }) (started body signature)
+  pub starts : {k : BodyCheck} → Ok k ≡ check_of (read_body body signature) → at_first (after_count (sealed_part body)) k.items None ≡ started body signature
   unfolding started
-  starts c k e = let t = acceptance_told (read_body body signature) c in rw (← k, ← e, t.2, t.3)
+  starts e = by_check (after_count (sealed_part body)) (read_body body signature) e
 
-  pub starts_refused : {r : Refusal} → Refused r ≡ check_of (read_body body signature)
-      → ◌≡◌ {A = Cursor} (record { at = 0; total = 0; used = 0; item = 0; count = 0; refusal = r }) (started body signature)
+  pub starts_refused : {why : Refusal} → Err why ≡ check_of (read_body body signature) → at_first 0 0 (Some why) ≡ started body signature
   unfolding started
-  starts_refused c = rw (refusal_told (read_body body signature) c)
+  starts_refused e = by_refusal (after_count (sealed_part body)) (read_body body signature) e
