@@ -5,5 +5,5 @@ use Rattle.one_answer.specs.OneAnswer.{OneAnswer}
 use Rattle.item_row.proofs.item_of.Kinds as item_of_kinds
 use Rattle.item_row.proofs.item_of.Reads as item_of_reads
 
-pub item_of : OneAnswer 0 item_of_kinds.ps item_of_kinds.r item_of_reads.Post (λ κs x y s t. x ≡ y)
+pub item_of : OneAnswer 1 item_of_kinds.ps item_of_kinds.r item_of_reads.Post (λ κs x y s t. x ≡ y)
 item_of κs a x y s t p q = p ∙ sym q

@@ -3,78 +3,61 @@
 #![tactic(auto)]
 
 ghost use Rattle.std.specs.Prelude.{◌≡◌};
-ghost use Rattle.item_row.specs.Row.{span_of, command_row, key_row, row_item};
+ghost use Rattle.item_row.specs.Row.{span_of, command_row, key_row, item_of_row};
 
 use log_item::{Command, EntryIndexes, KeyValue, LogItem, LogItemContent, Op, Span};
+use refusal::Reason;
 
-// The item that words spell, or why they spell none.
-#[derive(Clone, Copy)]
-pub enum ItemRowRead {
-    Item(LogItem),
-    Refused(u32),
-}
-
-// The item of seven words; those that it has no use for are not looked at.
-pub fn item_of(group: u64, item_type: u64, kind: u64, a: u64, b: u64, c: u64, d: u64) -> ItemRowRead
-    ensures { result ≡ row_item group item_type kind a b c d }
+// The item of seven words, or why they spell none; those that it has no use for are not looked at.
+#[tactic(auto, unfolding(crate::specs::Row::item_of_row, crate::specs::Row::row_item))]
+pub fn item_of(row: &[u64; 7]) -> Result<LogItem, Reason>
+    ensures { result ≡ item_of_row row.now 0 }
 {
-    if item_type == 1 {
-        return ItemRowRead::Item(LogItem {
+    let [group, item_type, kind, a, b, c, d] = *row;
+    match item_type {
+        1 => Ok(LogItem {
             raft_group_id: group,
             content: LogItemContent::EntryIndexes(EntryIndexes {
                 count: a as usize,
                 first_index: b,
             }),
-        });
+        }),
+        2 => command_of(group, kind, a),
+        3 => key_of(group, kind, span(a, b), span(c, d)),
+        _ => Err(Reason::ItemTypeUnknown),
     }
-    if item_type == 2 {
-        return command_of(group, kind, a);
-    }
-    if item_type == 3 {
-        return key_of(group, kind, span(a, b), span(c, d));
-    }
-    ItemRowRead::Refused(refusal::ITEM_TYPE_UNKNOWN)
 }
 
 // 1 clean, 2 compact.
-fn command_of(group: u64, kind: u64, index: u64) -> ItemRowRead
+#[tactic(auto, unfolding(crate::specs::Row::command_row))]
+fn command_of(group: u64, kind: u64, index: u64) -> Result<LogItem, Reason>
     ensures { result ≡ command_row group kind index }
 {
-    if kind == 1 {
-        return ItemRowRead::Item(LogItem {
-            raft_group_id: group,
-            content: LogItemContent::Command(Command::Clean),
-        });
-    }
-    if kind == 2 {
-        return ItemRowRead::Item(LogItem {
-            raft_group_id: group,
-            content: LogItemContent::Command(Command::Compact { index }),
-        });
-    }
-    ItemRowRead::Refused(refusal::COMMAND_UNKNOWN)
+    let command = match kind {
+        1 => Command::Clean,
+        2 => Command::Compact { index },
+        _ => return Err(Reason::CommandUnknown),
+    };
+    Ok(LogItem {
+        raft_group_id: group,
+        content: LogItemContent::Command(command),
+    })
 }
 
 // 1 put, 2 delete.
-fn key_of(group: u64, kind: u64, key: Span, value: Span) -> ItemRowRead
+#[tactic(auto, unfolding(crate::specs::Row::key_row))]
+fn key_of(group: u64, kind: u64, key: Span, value: Span) -> Result<LogItem, Reason>
     ensures { result ≡ key_row group kind key value }
 {
-    if kind == 1 {
-        return ItemRowRead::Item(LogItem {
-            raft_group_id: group,
-            content: LogItemContent::Kv(KeyValue {
-                key,
-                op: Op::Put { value },
-            }),
-        });
-    }
-    if kind == 2 {
-        return ItemRowRead::Item(LogItem {
-            raft_group_id: group,
-            content: LogItemContent::Kv(KeyValue { key, op: Op::Del }),
-        });
-    }
-    ItemRowRead::Refused(refusal::OP_UNKNOWN)
+    let op = match kind {
+        1 => Op::Put { value },
+        2 => Op::Del,
+        _ => return Err(Reason::OpUnknown),
+    };
+    Ok(LogItem {
+        raft_group_id: group,
+        content: LogItemContent::Kv(KeyValue { key, op }),
+    })
 }
 
 fn span(at: u64, len: u64) -> Span
