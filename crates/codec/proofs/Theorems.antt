@@ -13,62 +13,64 @@ use lib.ListN.{length, drop, length-append, length-drop}
 use lib.Pow.{pow_pos}
 use lib.Seq.{drop-drop, drop-append_seam}
 use Rattle.words.specs.Byte.{Bytes}
+use Rattle.refusal.specs.declared.Reason.TheVariants.{NumberBroken}
 use Rattle.words.specs.Got.{got, refused}
 use Rattle.words.specs.Place.{Found}
 use Rattle.words.proofs.Bytes.{as_long}
-use Rattle.codec.specs.declared.NumberRead.{NumberRead}
-use Rattle.codec.specs.declared.NumberRead.TheVariants.{Done, Eof, Overflow}
+use Rattle.std.specs.Prelude.{Ok, Err}
+use Rattle.words.specs.Word.{piece}
 use Rattle.codec.specs.Spelling.{SpellsNumber}
-use Rattle.codec.specs.Number.{read_number, read_from, number_got}
+use Rattle.codec.specs.Number.{NumberRead, read_number, read_from, number_got}
 use Rattle.codec.specs.Shortest.{shortest, stated_length}
-use Rattle.codec.proofs.Spelled.{as_number, read_groups, read_head, groups_pos}
+use Rattle.codec.proofs.Spelled.{same_piece, as_number, read_groups, read_head, groups_pos}
 use Rattle.codec.proofs.Shortest.{digit, spell_good, spell_digits, spell_least, spell_only, groups_fit, below_pow}
 
 -- A number is read at a place exactly when some spelling of it stands there; the next place is where the spelling ends.
-pub read_iff_stands : (s : List ℕ) (at n next : ℕ) → (read_number s at ≡ Done n next) ↔ Found s (SpellsNumber n) at next
+pub read_iff_stands : (s : List ℕ) (at n next : ℕ) → (read_number s at ≡ Ok (piece n next)) ↔ Found s (SpellsNumber n) at next
 unfolding read_number
 read_iff_stands s at n next = (to, from)
   where
-    to : read_from 9 (drop at s) at ≡ Done n next → Found s (SpellsNumber n) at next
+    to : read_from 9 (drop at s) at ≡ Ok (piece n next) → Found s (SpellsNumber n) at next
     to e =
         let h = read_head 9 (drop at s) at e in
         let rest : drop next s ≡ h.rest =
         ap (λ k. drop k s) h.after ∙ sym (drop-drop (length h.bytes) at s) ∙ ap (drop (length h.bytes)) h.parts ∙ drop-append_seam h.bytes h.rest in
         record { bytes = h.bytes; at = record { stand = rw rest h.parts; ends = h.after }; has = as_number h.spells }
 
-    from : Found s (SpellsNumber n) at next → read_from 9 (drop at s) at ≡ Done n next
+    from : Found s (SpellsNumber n) at next → read_from 9 (drop at s) at ≡ Ok (piece n next)
     from h = rw (h.at.stand, h.at.ends) (read_groups 9 h.has.groups h.has.few h.has.tenth _ at)
 
 -- In document 01's numbers: the number and the place after it exactly when some spelling of it stands there, and 7 exactly when none of any does.
 pub number_told : (s : List ℕ) (at : ℕ) → ((n next : ℕ) → (number_got (read_number s at) ≡ got n next) ↔ Found s (SpellsNumber n) at next)
-    × ((number_got (read_number s at) ≡ refused 7) ↔ ((n next : ℕ) → Found s (SpellsNumber n) at next → ⊥))
+    × ((number_got (read_number s at) ≡ refused NumberBroken) ↔ ((n next : ℕ) → Found s (SpellsNumber n) at next → ⊥))
 number_told s at = (λ n next. (λ e. (read_iff_stands s at n next).0 (done (read_number s at) e), λ h. rw ((read_iff_stands s at n next).1 h)), (λ e n next h. clash (sym e ∙ ap number_got ((read_iff_stands s at n next).1 h)), λ none. other (read_number s at) λ n next e. none n next ((read_iff_stands s at n next).0 e)))
   where
-    clash : {n next : ℕ} → refused 7 ≡ got n next → ⊥
+    clash : {n next : ℕ} → refused NumberBroken ≡ got n next → ⊥
     clash e = let z : ◌≡◌ {A = ℕ} 0 1 = cc in omega arith
 
-    done : (r : NumberRead) {n next : ℕ} → number_got r ≡ got n next → r ≡ Done n next
-    done (Done n next) e = cc
-    done Eof e = absurd (clash e)
-    done Overflow e = absurd (clash e)
+    done : (r : NumberRead) {n next : ℕ} → number_got r ≡ got n next → r ≡ Ok (piece n next)
+    done (Ok r) {n} {next} e =
+        let v : r.value ≡ n = cc in
+        let q : r.next ≡ next = cc in
+        rw (← v, ← q)
+    done (Err r) e = absurd (clash e)
 
-    other : (r : NumberRead) → ((n next : ℕ) → r ≡ Done n next → ⊥) → number_got r ≡ refused 7
-    other (Done n next) f = absurd (f n next refl)
-    other Eof f = refl
-    other Overflow f = refl
+    other : (r : NumberRead) → ((n next : ℕ) → r ≡ Ok (piece n next) → ⊥) → number_got r ≡ refused NumberBroken
+    other (Ok r) f = absurd (f r.value r.next refl)
+    other (Err r) f = refl
 
 -- Of two spellings that begin the same bytes, number and bytes are equal.
 pub one_spelling : {n m : ℕ} {bs cs : List ℕ} (r t : List ℕ) → SpellsNumber n bs → SpellsNumber m cs → bs ++ r ≡ cs ++ t → (n ≡ m) × (bs ≡ cs)
 one_spelling {n} {m} {bs} {cs} r t hb hc e =
     let rb = read_groups 9 hb.groups hb.few hb.tenth r 0 in
     let rc = read_groups 9 hc.groups hc.few hc.tenth t 0 in
-    let both : Done n (0 + length bs) ≡ Done m (0 + length cs) = sym rb ∙ ap (λ (l : List ℕ). read_from 9 l 0) e ∙ rc in
-    let len : 0 + length bs ≡ 0 + length cs = cc in
+    let both : ◌≡◌ {A = NumberRead} (Ok (piece n (0 + length bs))) (Ok (piece m (0 + length cs))) = sym rb ∙ ap (λ (l : List ℕ). read_from 9 l 0) e ∙ rc in
+    let len : 0 + length bs ≡ 0 + length cs = (same_piece both).1 in
     let same : length bs ≡ length cs = omega arith in
-    (cc, as_long bs cs r t same e)
+    ((same_piece both).0, as_long bs cs r t same e)
 
 -- What is read has a byte at least, and ends in the bytes.
-pub read_moves : (s : List ℕ) (at n next : ℕ) → read_number s at ≡ Done n next → (at < next) × (next ≤ length s)
+pub read_moves : (s : List ℕ) (at n next : ℕ) → read_number s at ≡ Ok (piece n next) → (at < next) × (next ≤ length s)
 read_moves s at n next e =
     let h = (read_iff_stands s at n next).0 e in
     let one : 0 < length h.bytes = groups_pos h.has.groups in
@@ -119,7 +121,7 @@ shortest_length n h =
     d.1 ∙ omega (arith, top.1)
 
 -- Reading after writing gives the number and the next place, wherever it stands and whatever follows.
-pub read_written : (n : ℕ) → n < 2 ^ 64 → (xs ys : List ℕ) → read_number (xs ++ (shortest n ++ ys)) (length xs) ≡ Done n (length xs + length (shortest n))
+pub read_written : (n : ℕ) → n < 2 ^ 64 → (xs ys : List ℕ) → read_number (xs ++ (shortest n ++ ys)) (length xs) ≡ Ok (piece n (length xs + length (shortest n)))
 unfolding read_number
 read_written n h xs ys =
     let g = shortest_spells n h in

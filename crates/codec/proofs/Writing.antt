@@ -9,7 +9,7 @@ use native.Mathlib.Numerals.{add-one}
 use lib.ListN.{length, set, length-set}
 use lib.Seq.{sets}
 use Rattle.words.specs.Write.{placed, wrote_at}
-use Rattle.words.specs.declared.Wrote.TheVariants.{Next, NoRoom}
+use Rattle.std.specs.Prelude.{Some, None}
 use Rattle.words.proofs.Writing.{no_room, room_for}
 use Rattle.codec.specs.Shortest.{spell, shortest}
 use Rattle.codec.proofs.Shortest.{Size, small, large, size, spell_one, spell_more, spell_pos, fewer, shortest_few}
@@ -51,12 +51,12 @@ module _ {n : ℕ} {out₀ : List ℕ} {at : ℕ} {out : List ℕ} {left i : ℕ
   )
 
 -- a number of one byte, or no room for it
-pub one_short : (n : ℕ) (out : List ℕ) (at : ℕ) → n < 128 → length out ≤ at → (NoRoom ≡ wrote_at out at (shortest n)) × (out ≡ placed out at (shortest n))
+pub one_short : (n : ℕ) (out : List ℕ) (at : ℕ) → n < 128 → length out ≤ at → (None ≡ wrote_at out at (shortest n)) × (out ≡ placed out at (shortest n))
 unfolding shortest
 one_short n out at t h = rw (spell_one 9 n t) (no_room out at (n ∷ []) (omega arith))
 
 pub one_byte : (n : ℕ) (out : List ℕ) (at : ℕ) → n < 128 → at < length out
-    → (Next (at + 1) ≡ wrote_at out at (shortest n)) × (set out at n ≡ placed out at (shortest n))
+    → (Some (at + 1) ≡ wrote_at out at (shortest n)) × (set out at n ≡ placed out at (shortest n))
 unfolding shortest
 one_byte n out at t h = rw (spell_one 9 n t) (room_for out at (n ∷ []) (set out at n) (at + 1) (omega arith) (refl, refl))
 
@@ -66,11 +66,11 @@ module _ (n : ℕ) (out : List ℕ) (at : ℕ) (many : 128 ≤ n) (few : n < 163
   both : (set (set out at (128 + n % 128)) (at + 1) (n / 128) ≡ sets out at (shortest n)) × (at + 1 + 1 ≡ at + length (shortest n))
   both = writes_last (writes_more (writes_start n out at (omega arith)) many) (omega arith)
 
-  pub two_short : length out < at + 2 → (NoRoom ≡ wrote_at out at (shortest n)) × (out ≡ placed out at (shortest n))
+  pub two_short : length out < at + 2 → (None ≡ wrote_at out at (shortest n)) × (out ≡ placed out at (shortest n))
   two_short h = no_room out at (shortest n) (omega (arith, both.1))
 
   pub two_bytes : at + 2 ≤ length out
-      → (Next (at + 2) ≡ wrote_at out at (shortest n)) × (set (set out at (128 + n % 128)) (at + 1) (n / 128) ≡ placed out at (shortest n))
+      → (Some (at + 2) ≡ wrote_at out at (shortest n)) × (set (set out at (128 + n % 128)) (at + 1) (n / 128) ≡ placed out at (shortest n))
   two_bytes h = room_for out at (shortest n) _ (at + 2) (omega (arith, both.1)) (both.0, omega (arith, both.1))
 
 -- ---- the loop over nine bytes

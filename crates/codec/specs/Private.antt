@@ -1,15 +1,13 @@
 -- What the contracts of private functions cite: this file serves them alone, and no public contract.
 -- Assumes nothing.
-use Rattle.std.specs.Prelude.{ℕ, ◌+◌, ◌-◌, ◌*◌, ◌^◌, ◌<◌, ◌≡◌, List, drop}
-use Rattle.codec.specs.declared.NumberRead.{NumberRead}
-use Rattle.codec.specs.declared.NumberRead.TheVariants.{Done, Eof, Overflow}
-use Rattle.codec.specs.Number.{read_from, read_number}
+use Rattle.std.specs.Prelude.{ℕ, ◌+◌, ◌-◌, ◌*◌, ◌^◌, ◌<◌, ◌≡◌, Ok, Err, List, drop}
+use Rattle.words.specs.Word.{piece}
+use Rattle.codec.specs.Number.{NumberRead, read_from, read_number}
 
 -- the number v, below a number that starts at bit k
 abbrev pub onto : ℕ → ℕ → NumberRead → NumberRead
-onto v k (Done n next) = Done (v + n * 2 ^ k) next
-onto v k Eof = Eof
-onto v k Overflow = Overflow
+onto v k (Ok n) = Ok (piece (v + n.value * 2 ^ k) n.next)
+onto v k (Err e) = Err e
 
 -- what is left to read after j bytes of the number at a place
 unfoldable pub left_after : List ℕ → ℕ → ℕ → NumberRead

@@ -7,28 +7,28 @@ use Rattle.codec.proofs.decode_longer.Goals as goal
 
 pub returns-then-third-lt128 : goal.returns-then-third-lt128
 returns-then-third-lt128 c =
-    so_far_last _ _ 2 _ c.requires.1 _ c.wide-third.ensures (omega arith) (omega arith) (omega arith) (omega arith)
+    so_far_last _ _ 2 _ c.requires.1 _ c.from-third.ensures (omega arith) (omega arith) (omega arith) (omega arith)
 
 pub returns-then-fourth-lt128 : goal.returns-then-fourth-lt128
 returns-then-fourth-lt128 c =
     let known = c.type_inv.buf (c.args.at + 2) in
-    let three = so_far_more _ _ 2 _ c.requires.1 _ c.wide-third.ensures (omega arith) (omega arith) (omega arith) (omega arith) in
-    so_far_last _ _ 3 _ three _ c.wide-fourth.ensures (omega arith) (omega arith) (omega arith) (omega arith)
+    let three = so_far_more _ _ 2 _ c.requires.1 _ c.from-third.ensures (omega arith) (omega arith) (omega arith) (omega arith) in
+    so_far_last _ _ 3 _ three _ c.from-fourth.ensures (omega arith) (omega arith) (omega arith) (omega arith)
 
 pub returns-then-fifth-lt128 : goal.returns-then-fifth-lt128
 returns-then-fifth-lt128 c =
     let known = c.type_inv.buf (c.args.at + 2) in
-    let three = so_far_more _ _ 2 _ c.requires.1 _ c.wide-third.ensures (omega arith) (omega arith) (omega arith) (omega arith) in
+    let three = so_far_more _ _ 2 _ c.requires.1 _ c.from-third.ensures (omega arith) (omega arith) (omega arith) (omega arith) in
     let known2 = c.type_inv.buf (c.args.at + 3) in
-    let four = so_far_more _ _ 3 _ three _ c.wide-fourth.ensures (omega arith) (omega arith) (omega arith) (omega arith) in
-    so_far_last _ _ 4 _ four _ c.wide-fifth.ensures (omega arith) (omega arith) (omega arith) (omega arith)
+    let four = so_far_more _ _ 3 _ three _ c.from-fourth.ensures (omega arith) (omega arith) (omega arith) (omega arith) in
+    so_far_last _ _ 4 _ four _ c.from-fifth.ensures (omega arith) (omega arith) (omega arith) (omega arith)
 
 pub decode_up_to-requires : goal.decode_up_to-requires
 decode_up_to-requires c =
     let known = c.type_inv.buf (c.args.at + 2) in
-    let three = so_far_more _ _ 2 _ c.requires.1 _ c.wide-third.ensures (omega arith) (omega arith) (omega arith) (omega arith) in
+    let three = so_far_more _ _ 2 _ c.requires.1 _ c.from-third.ensures (omega arith) (omega arith) (omega arith) (omega arith) in
     let known2 = c.type_inv.buf (c.args.at + 3) in
-    let four = so_far_more _ _ 3 _ three _ c.wide-fourth.ensures (omega arith) (omega arith) (omega arith) (omega arith) in
+    let four = so_far_more _ _ 3 _ three _ c.from-fourth.ensures (omega arith) (omega arith) (omega arith) (omega arith) in
     let known3 = c.type_inv.buf (c.args.at + 4) in
-    let five = so_far_more _ _ 4 _ four _ c.wide-fifth.ensures (omega arith) (omega arith) (omega arith) (omega arith) in
+    let five = so_far_more _ _ 4 _ four _ c.from-fifth.ensures (omega arith) (omega arith) (omega arith) (omega arith) in
     (omega arith, omega arith, omega arith, omega arith, five)

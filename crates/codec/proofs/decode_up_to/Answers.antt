@@ -10,19 +10,19 @@ pub overflow_add-result : goal.overflow_add-result
 overflow_add-result c =
     let l = c.loop-j in
     let known = c.shared_slice_known-in-loop-j-1.given (c.args.at + l.j) in
-    record { fits = grown_fits l.value c.wide-b.result l.j (omega arith) (omega arith) l.invariant.2 }
+    record { fits = grown_fits l.value c.from-b.result l.j (omega arith) (omega arith) l.invariant.2 }
 
 pub returns-then-b-lt128 : goal.returns-then-b-lt128
 returns-then-b-lt128 c =
     let l = c.loop-j in
     let known = c.shared_slice_known-in-loop-j-1.given (c.args.at + l.j) in
-    turn_last _ _ _ l.j l.value l.invariant.3 c.wide-b.result c.wide-b.ensures (omega arith) (omega arith) (omega arith)
+    turn_last _ _ _ l.j l.value l.invariant.3 c.from-b.result c.from-b.ensures (omega arith) (omega arith) (omega arith)
 
 pub overflow_add-value : goal.overflow_add-value
 overflow_add-value c =
     let l = c.loop-j in
     let known = c.shared_slice_known-in-loop-j-1.given (c.args.at + l.j) in
-    record { fits = grown_fits l.value (c.wide-b.result - 128) l.j (omega arith) (omega arith) l.invariant.2 }
+    record { fits = grown_fits l.value (c.from-b.result - 128) l.j (omega arith) (omega arith) l.invariant.2 }
 
 pub loop-j-preserved : goal.loop-j-preserved
 loop-j-preserved c =
@@ -30,14 +30,9 @@ loop-j-preserved c =
     let known = c.shared_slice_known-in-loop-j-1.given (c.args.at + l.j) in (
       omega arith,
       omega arith,
-      grown l.value (c.wide-b.result - 128) l.j (omega arith) (omega arith) l.invariant.2,
-      turn_more _ _ _ l.j l.value l.invariant.3 c.wide-b.result c.wide-b.ensures (omega arith) (omega arith) (omega arith) (omega arith),
+      grown l.value (c.from-b.result - 128) l.j (omega arith) (omega arith) l.invariant.2,
+      turn_more _ _ _ l.j l.value l.invariant.3 c.from-b.result c.from-b.ensures (omega arith) (omega arith) (omega arith) (omega arith),
     )
-
-pub returns-then-j-lt9 : goal.returns-then-j-lt9
-returns-then-j-lt9 c =
-    let l = c.loop-j in
-    turn_short _ _ _ l.j l.value l.invariant.3 (omega arith)
 
 pub returns-then-buf-at-le9 : goal.returns-then-buf-at-le9
 returns-then-buf-at-le9 c =
@@ -48,10 +43,10 @@ pub returns-then-b-gt1 : goal.returns-then-b-gt1
 returns-then-b-gt1 c =
     let l = c.loop-j in
     let nine : l.j ≡ 9 = omega arith in
-    turn_over _ _ _ l.value (rw nine at l.invariant.3) c.wide-b-2.result c.wide-b-2.ensures (omega arith) (omega arith)
+    turn_over _ _ _ l.value (rw nine at l.invariant.3) c.from-b-2.result c.from-b-2.ensures (omega arith) (omega arith)
 
 pub returns : goal.returns
 returns c =
     let l = c.loop-j in
     let nine : l.j ≡ 9 = omega arith in
-    turn_tenth _ _ _ l.value (rw nine at l.invariant.3) c.wide-b-2.result c.wide-b-2.ensures (omega arith) (omega arith)
+    turn_tenth _ _ _ l.value (rw nine at l.invariant.3) c.from-b-2.result c.from-b-2.ensures (omega arith) (omega arith)

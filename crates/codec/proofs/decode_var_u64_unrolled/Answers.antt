@@ -10,17 +10,17 @@ pub returns-then-buf-at : goal.returns-then-buf-at
 returns-then-buf-at c = sym (first_short _ _ c.if-buf-at.true)
 
 pub returns-then-first-lt128 : goal.returns-then-first-lt128
-returns-then-first-lt128 c = first_one _ _ _ (omega arith) c.wide-first.ensures c.if-first-lt128.true
+returns-then-first-lt128 c = first_one _ _ _ (omega arith) c.from-first.ensures c.if-first-lt128.true
 
 pub returns-then-second-lt128 : goal.returns-then-second-lt128
 returns-then-second-lt128 c =
-    first_two _ _ _ _ (omega arith) c.wide-first.ensures c.wide-second.ensures c.if-first-lt128.false c.if-second-lt128.true
+    first_two _ _ _ _ (omega arith) c.from-first.ensures c.from-second.ensures c.if-first-lt128.false c.if-second-lt128.true
 
 pub decode_longer-requires : goal.decode_longer-requires
 decode_longer-requires c =
     let known = c.shared_slice_known-2-1.given c.args.at in
     let known2 = c.shared_slice_known-3-1.given (c.args.at + 1) in (
       omega arith,
-      so_far_more _ _ 1 _ (so_far_one _ _ _ (omega arith) c.wide-first.ensures (omega arith) (omega arith)) _ c.wide-second.ensures
+      so_far_more _ _ 1 _ (so_far_one _ _ _ (omega arith) c.from-first.ensures (omega arith) (omega arith)) _ c.from-second.ensures
           (omega arith) (omega arith) (omega arith) (omega arith),
     )

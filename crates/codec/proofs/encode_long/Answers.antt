@@ -1,7 +1,7 @@
 -- `codec::encode_long` meets its contract. The loop's invariant: there is room, and, by `Writes`, what is left of the number still has to be stored.
 -- Assumes nothing.
 use Prim.Native.Nat.{◌+◌, ◌≤◌}
-use Rattle.codec.proofs.encode_long.Goals.{then-room-lt10+else-room-var_u64_len, else-room-lt10}
+use Rattle.codec.proofs.encode_long.Goals.{else-room-lt10-via-then-room-lt10+else-room-var_u64_len, else-room-lt10-via-else-room-lt10}
 use lib.ListN.{length}
 use native.Mathlib.Omega.{arith}
 use Rattle.codec.specs.Shortest.{shortest}
@@ -13,7 +13,7 @@ use Rattle.codec.proofs.encode_long.Goals as goal
 pub loop-left-init : goal.loop-left-init
 loop-left-init c =
     let a = c.args in
-    let room : a.at + length (shortest a.n) ≤ length a.out.now = elim c.if-room-lt10.branch [ then-room-lt10+else-room-var_u64_len w ↦ omega arith | else-room-lt10 w ↦ omega (arith, shortest_few a.n c.ranges.n.fits) ] in
+    let room : a.at + length (shortest a.n) ≤ length a.out.now = elim c.else-room-lt10.branch [ else-room-lt10-via-then-room-lt10+else-room-var_u64_len w ↦ omega arith | else-room-lt10-via-else-room-lt10 w ↦ omega (arith, shortest_few a.n c.ranges.n.fits) ] in
     (room, writes_start _ _ _ c.ranges.n.fits)
 
 pub bounds-out-i : goal.bounds-out-i

@@ -4,8 +4,8 @@ use native.Mathlib.Omega.{arith}
 use Rattle.codec.proofs.Writing.{two_short, two_bytes}
 use Rattle.codec.proofs.encode_short.Goals as goal
 
-pub returns-then-out-at-lt2 : goal.returns-then-out-at-lt2
-returns-then-out-at-lt2 c = two_short _ _ _ (omega arith) (omega arith) (omega arith)
+pub returns-then-out-at : goal.returns-then-out-at
+returns-then-out-at c = two_short _ _ _ (omega arith) (omega arith) (omega arith)
 
 pub returns : goal.returns
 returns c =
