@@ -8,6 +8,8 @@ use native.Mathlib.Omega.{arith}
 use lib.Dec.{ltb}
 use lib.ListN.{length, get_or, length-append}
 use borrow.Author.Tests.{ltb-false}
+use Rattle.std.specs.Prelude.{Ok}
+use Rattle.refusal.specs.First.{fine}
 use Rattle.codec.specs.Shortest.{shortest}
 use Rattle.words.specs.Write.{next_at, placed}
 use Rattle.log_item.specs.Entries.{entries_of}
@@ -19,7 +21,7 @@ use Rattle.log_item.proofs.Refusals.{content_inside_lem, content_allowed}
 use Rattle.log_item.proofs.Stores.{stored_none, stored_at, stored_then, stored_length, stored_same}
 use Rattle.log_item.specs.Blank.{blank_item}
 use Rattle.list_writer.specs.Bytes.{items_bytes}
-use Rattle.list_writer.specs.Refusing.{fine, items_verdict}
+use Rattle.list_writer.specs.Refusing.{items_verdict}
 use Rattle.list_writer.specs.Pieces.{head_next, head_placed}
 use Rattle.list_writer.proofs.Pieces.{head_stored}
 use Rattle.list_writer.proofs.Heads.{unless_fine, cond_fine}
@@ -36,9 +38,9 @@ pub record Writing (s : List ℕ) (xs : List LogItem) (ns out₀ : List ℕ) (st
   pub same : length out ≡ length out₀
   pub spare : at + length (rest_bytes s xs ns i j tails t) + 4 ≤ length out
   pub left : {n : ℕ} {later : List ℕ} → Stored out at (rest_bytes s xs ns i j tails t) n later → Stored out₀ start (items_bytes s xs ns 0) n later
-  pub told : rest_verdict s xs ns checked i j tails t ≡ fine total
+  pub told : rest_verdict s xs ns checked i j tails t ≡ Ok total
 
-pub writing_start : (s : List ℕ) (checked : Bool) (xs : List LogItem) (ns out : List ℕ) (at total : ℕ) → items_verdict s checked xs ns 0 0 0 ≡ fine total
+pub writing_start : (s : List ℕ) (checked : Bool) (xs : List LogItem) (ns out : List ℕ) (at total : ℕ) → items_verdict s checked xs ns 0 0 0 ≡ Ok total
     → at + length (items_bytes s xs ns 0) + 4 ≤ length out → Writing s xs ns out at out at 0 0 0 0
 writing_start s checked xs ns out at total e h =
     record {
@@ -72,10 +74,10 @@ module _ {s : List ℕ} {xs : List LogItem} {ns out₀ : List ℕ} {start : ℕ}
   row_bytes r h e = rw e at (bytes_row s xs ns i j tails t h w.room)
 
   row_told : (r : ℕ) → 0 < tails → get_or ns j 0 ≡ r
-      → (ltb 4294967295 (t + r) ≡ false) × (rest_verdict s xs ns w.checked i (j + 1) (tails - 1) (t + r) ≡ fine w.total)
+      → (ltb 4294967295 (t + r) ≡ false) × (rest_verdict s xs ns w.checked i (j + 1) (tails - 1) (t + r) ≡ Ok w.total)
   row_told r h e =
       let v = rw e at (told_row s xs ns w.checked i j tails t h w.room) in
-      cond_fine (ltb 4294967295 (t + r)) 16 (i - 1) _ w.total (sym v ∙ w.told)
+      cond_fine (ltb 4294967295 (t + r)) _ _ (sym v ∙ w.told)
 
   pub row_low : (r : ℕ) → 0 < tails → get_or ns j 0 ≡ r → t + r ≤ 4294967295
   row_low r h e = ltb-false 4294967295 (t + r) (row_told r h e).0
@@ -109,8 +111,8 @@ module _ {s : List ℕ} {xs : List LogItem} {ns out₀ : List ℕ} {start : ℕ}
   item_bytes_lem x z h e = ap (λ (n : ℕ). rest_bytes s xs ns i j n t) (none z) ∙ (rw e at (bytes_item s xs ns i j t h))
 
   item_told : (x : LogItem) → tails ≤ 0 → i < length xs → get_or xs i blank_item ≡ x
-      → (content_refusal s w.checked j (length ns) x.content ≡ 0)
-      × (rest_verdict s xs ns w.checked (i + 1) j (entries_of x.content).count t ≡ fine w.total)
+      → (content_refusal s w.checked j (length ns) x.content ≡ fine)
+      × (rest_verdict s xs ns w.checked (i + 1) j (entries_of x.content).count t ≡ Ok w.total)
   item_told x z h e =
       unless_fine _ i _ w.total
       (sym (rw e at (told_item s xs ns w.checked i j t w.low h (omega (arith, w.room)))) ∙ sym (ap (λ (n : ℕ). rest_verdict s xs ns w.checked i j n t) (none z))
