@@ -1,13 +1,12 @@
--- What a step comes to: a law for each way out of it.
+-- What a step comes to: a law for each way out of it that opened readers take.
 -- Assumes nothing.
 use Rattle.std.proofs.Common.{◌≡◌, ℕ, ◌<◌, ◌≤◌, List, Option, Some, None, Ok, Err, le-ltb, lt-ltb}
 use Rattle.refusal.specs.declared.Refusal.{Refusal}
-use Rattle.log_item.specs.Got.{got, refused}
+use Rattle.log_item.specs.Got.{got}
 use Rattle.log_item.specs.Answers.{counted_item}
 use Rattle.log_item.specs.declared.Form.TheVariants.{Any}
 use Rattle.log_item.specs.declared.ItemRead.{ItemRead}
 use Rattle.log_batch.specs.Seal.{sealed_part}
-use Rattle.refusal.specs.declared.Reason.{Reason}
 use Rattle.item_reader.specs.declared.Cursor.{Cursor}
 use Rattle.item_reader.specs.Steps.{stayed, step_over, stepped}
 
@@ -21,12 +20,7 @@ module _ (body : List ℕ) (c : Cursor) where
     unfolding stepped
     step_end h = rw (none, le-ltb _ _ h)
 
-    module _ (more : c.item < c.count) where
-      pub step_item : {x : ItemRead} {q : ℕ} → counted_item Any (sealed_part body) c.used c.total c.at ≡ got x q → stepped body c ≡ step_over c (got x q)
-      unfolding stepped
-      step_item e = rw (none, lt-ltb _ _ more, e)
-
-      pub step_broken : {r : Reason} → counted_item Any (sealed_part body) c.used c.total c.at ≡ refused r
-          → stepped body c ≡ stayed c (Err (record { reason = r; item = c.item }))
-      unfolding stepped
-      step_broken e = rw (none, lt-ltb _ _ more, e)
+    pub step_item : c.item < c.count → {x : ItemRead} {q : ℕ} → counted_item Any (sealed_part body) c.used c.total c.at ≡ got x q
+        → stepped body c ≡ step_over c (got x q)
+    unfolding stepped
+    step_item h e = rw (none, lt-ltb _ _ h, e)

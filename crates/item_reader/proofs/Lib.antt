@@ -1,6 +1,4 @@
-pub mod RowLaws
 pub mod ItemLaws
-pub mod OpenLaws
 pub mod Opened
 pub mod Through
 pub mod Theorems

@@ -73,6 +73,7 @@ pub struct ItemReader<'a> {
 impl Cursor {
     // A cursor at the first item of a body, which is read whole under the signature. It is always handed back: where the body is refused,
     // so is each step.
+    #[tactic(auto, unfolding(crate::specs::Cursor::started))]
     pub fn start(body: &[u8], signature: u32) -> Cursor
         ensures { result ≡ started body.now signature }
     {
@@ -101,6 +102,7 @@ impl Cursor {
 
     // The next item, the end, or the body's refusal, and the cursor after it; after the end the end again. The body is the one that the
     // cursor was started on; in another the answer is what stands there: an item, or why it is refused.
+    #[tactic(auto, unfolding(crate::specs::Steps::stepped))]
     pub fn step(self, body: &[u8]) -> Stepped
         ensures { result ≡ stepped body.now self }
     {
@@ -121,8 +123,7 @@ impl Cursor {
                         total: read.total,
                         used: read.used,
                         item: self.item + 1,
-                        count: self.count,
-                        refusal: self.refusal,
+                        ..self
                     },
                     answer: Ok(Some(found)),
                 }
@@ -184,18 +185,20 @@ impl<'a> ItemReader<'a> {
 
 // What call number k of `next`, counted from 0, answers on a reader opened on the body under the signature. It is for tests: each call
 // opens the body and reads it whole. Whoever goes through a body has a reader or a cursor.
+#[tactic(auto, unfolding(crate::specs::Reader::after_calls))]
 pub fn nth(body: &[u8], signature: u32, k: usize) -> Result<Option<Found>, Refusal>
     ensures { result ≡ nth_of (opened body.entry signature) k }
 {
     let mut reader = ItemReader::open(body, signature);
     for _i in 0..k {
-        reader.next();
+        let _ = reader.next();
     }
     reader.next()
 }
 
 // The next of an item's rows, in the body that the item was read from, footer included: first with the rows that came with the item,
 // then with the rest that comes with each row. None where none is left, or why its tail is refused.
+#[tactic(auto, unfolding(crate::specs::Rows::next_row), using(log_item::proofs::Known::tail_known))]
 pub fn next_row(body: &[u8], rows: EntryRows) -> Result<Option<NextRow>, Reason>
     ensures { result ≡ next_row (sealed_part body.now) rows }
 {
@@ -220,6 +223,7 @@ pub fn next_row(body: &[u8], rows: EntryRows) -> Result<Option<NextRow>, Reason>
 }
 
 // The place after the item count, which is that of the first item.
+#[tactic(auto, unfolding(crate::specs::Cursor::after_count))]
 fn after_count(buf: &[u8]) -> usize
     ensures { result ≡ after_count buf.now }
 {
