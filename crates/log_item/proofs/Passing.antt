@@ -16,7 +16,6 @@ use Rattle.log_item.specs.declared.LogItem.{LogItem}
 use Rattle.log_item.specs.declared.LogItemContent.{LogItemContent}
 use Rattle.log_item.specs.declared.LogItemContent.TheVariants as contents
 use Rattle.log_item.specs.declared.Passed.{Passed}
-use Rattle.refusal.specs.declared.Reason.{Reason}
 use Rattle.log_item.proofs.Counted.{passing, item_rows, item_no_head}
 
 module _ (form : Form) (s : List ℕ) (e t : ℕ) where

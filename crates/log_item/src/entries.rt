@@ -66,6 +66,7 @@ pub(crate) fn read_first_index(
 }
 
 // Goes over `count` tails: the total and the place after them.
+#[tactic(auto, using(crate::proofs::Counted::pass_end, crate::proofs::Counted::pass_next))]
 pub(crate) fn skip_tails(
     buf: &[u8],
     at: usize,

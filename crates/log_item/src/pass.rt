@@ -22,11 +22,11 @@ impl LogItem {
     ) -> Result<Piece<Passed>, NotPassed>
         ensures { result ≡ passed_of (pass_item form buf.now used total at) }
     {
-        pass_item(buf, at, total, used, form).map_err(NotPassed::from)
+        pass_item(buf, at, Passed { total, used }, form).map_err(NotPassed::from)
     }
 }
 
-// A padded number is refused with NotShortest below.
+// A padded number, which pass_item refuses, is a case of its own.
 impl From<Reason> for NotPassed {
     ghost from_gives = { λ r e. e ≡ not_passed r };
 
@@ -38,20 +38,14 @@ impl From<Reason> for NotPassed {
     }
 }
 
-// The item at a place: a padded number is refused with NotShortest here and below.
-#[tactic(auto, unfolding(crate::specs::Answers::pass_item, crate::specs::Answers::counted_item, crate::specs::Reading::head))]
-fn pass_item(
-    buf: &[u8],
-    at: usize,
-    total: u32,
-    used: usize,
-    form: Form,
-) -> Result<Piece<Passed>, Reason>
-    ensures { got_of result ≡ pass_item form buf.now used total at }
+// The item at a place, behind what came before it. A padded number is refused with NotShortest here and below.
+#[tactic(auto, using(crate::proofs::Passing::passed_item), unfolding(crate::specs::Answers::pass_item, crate::specs::Answers::counted_item, crate::specs::Reading::head))]
+fn pass_item(buf: &[u8], at: usize, before: Passed, form: Form) -> Result<Piece<Passed>, Reason>
+    ensures { got_of result ≡ pass_item form buf.now before.used before.total at }
 {
     let group = read_number_in(buf, at, form)?;
     let kind = read_byte(buf, group.next)?;
-    pass_content(buf, kind.next, total, used, kind.value, form)
+    pass_content(buf, kind.next, before, kind.value, form)
 }
 
 // The content of an item of a type, and its tails. After a command or a key the total and the number of entries are as before.
@@ -59,44 +53,37 @@ fn pass_item(
 fn pass_content(
     buf: &[u8],
     at: usize,
-    total: u32,
-    used: usize,
+    before: Passed,
     kind: u8,
     form: Form,
 ) -> Result<Piece<Passed>, Reason>
-    ensures { got_of result ≡ pass_content form buf.now used total kind at }
+    ensures { got_of result ≡ pass_content form buf.now before.used before.total kind at }
 {
     let next = match kind {
-        1 => return pass_entries(buf, at, total, used, form),
+        1 => return pass_entries(buf, at, before, form),
         2 => Command::decode(buf, at, form)?.next,
         3 => KeyValue::decode(buf, at, form)?.next,
         _ => return Err(Reason::ItemTypeUnknown),
     };
     Ok(Piece {
-        value: Passed { total, used },
+        value: before,
         next,
     })
 }
 
 // A count of entries, their first index and their tails. The readers of EntryIndexes::decode are called one by one: each by itself is
 // small enough to be compiled in line here and there.
-#[tactic(auto, unfolding(crate::specs::Private::pass_entries, crate::specs::Reading::entry_indexes))]
-fn pass_entries(
-    buf: &[u8],
-    at: usize,
-    total: u32,
-    used: usize,
-    form: Form,
-) -> Result<Piece<Passed>, Reason>
-    ensures { got_of result ≡ pass_entries form buf.now used total at }
+#[tactic(auto, using(crate::proofs::Known::count_known, crate::proofs::Known::first_count), unfolding(crate::specs::Private::pass_entries, crate::specs::Reading::entry_indexes))]
+fn pass_entries(buf: &[u8], at: usize, before: Passed, form: Form) -> Result<Piece<Passed>, Reason>
+    ensures { got_of result ≡ pass_entries form buf.now before.used before.total at }
 {
-    let count = read_count(buf, at, used, form)?;
+    let count = read_count(buf, at, before.used, form)?;
     let entries = read_first_index(buf, count.next, count.value, form)?;
-    let last = skip_tails(buf, entries.next, entries.value.count, total, form)?;
+    let last = skip_tails(buf, entries.next, entries.value.count, before.total, form)?;
     Ok(Piece {
         value: Passed {
             total: last.value,
-            used: used + entries.value.count,
+            used: before.used + entries.value.count,
         },
         next: last.next,
     })

@@ -32,7 +32,7 @@ pub fn read_number(buf: &[u8], at: usize) -> Result<Piece<u64>, Reason>
 }
 
 // The number at a place, in the form asked for.
-#[tactic(auto, using(crate::proofs::NumberGot::number_inside), unfolding(crate::specs::Pieces::number))]
+#[tactic(auto, unfolding(crate::specs::Pieces::number))]
 pub(crate) fn read_number_in(buf: &[u8], at: usize, form: Form) -> Result<Piece<u64>, Reason>
     ensures { got_of result ≡ number form buf.now at }
 {
