@@ -1,12 +1,63 @@
-// An item as seven words: group, type, and five words by type and kind. The layout is that of raft_log.h. An entry as three words. And, in
-// specs/, what a caller outside gets back.
+// An item as seven words: group, type, and five words by type and kind; an entry as three: index, offset, length. The layout is that of
+// raft_log.h. And, in specs/, what a caller outside gets back.
 #![tactic(auto)]
 
-ghost use Rattle.std.specs.Prelude.{◌≡◌};
+ghost use Rattle.std.specs.Prelude.{◌≡◌, ℕ, Result, Ok, get_or};
+ghost use Rattle.log_item.specs.declared.LogItem.{LogItem};
+ghost use Rattle.refusal.specs.declared.Reason.{Reason};
 ghost use Rattle.item_row.specs.Row.{span_of, command_row, key_row, item_of_row, item_words, entry_words};
 
 use log_item::{Command, EntryIndex, EntryIndexes, KeyValue, LogItem, LogItemContent, Op, Span};
 use refusal::Reason;
+
+// What can be written as an item: an item itself, or seven words that may spell one.
+pub trait ItemRow {
+    ghost spelled: { Self → Result LogItem Reason };
+
+    // The item, or why there is none.
+    fn item(&self) -> Result<LogItem, Reason>
+        ensures { result ≡ spelled self.now };
+}
+
+impl ItemRow for LogItem {
+    ghost spelled = { λ item. Ok item };
+
+    fn item(&self) -> Result<LogItem, Reason> {
+        Ok(*self)
+    }
+}
+
+impl ItemRow for [u64; 7] {
+    ghost spelled = { λ row. item_of_row row 0 };
+
+    fn item(&self) -> Result<LogItem, Reason> {
+        item_of(self)
+    }
+}
+
+// What has the length of an entry: its row in a table, or three words.
+pub trait EntryRow {
+    ghost length: { Self → ℕ };
+
+    fn entry_len(&self) -> u64
+        ensures { result ≡ length self.now };
+}
+
+impl EntryRow for EntryIndex {
+    ghost length = { λ row. row.entry_len };
+
+    fn entry_len(&self) -> u64 {
+        u64::from(self.entry_len)
+    }
+}
+
+impl EntryRow for [u64; 3] {
+    ghost length = { λ row. get_or row 2 0 };
+
+    fn entry_len(&self) -> u64 {
+        self[2]
+    }
+}
 
 // The item of seven words, or why they spell none; those that it has no use for are not looked at.
 #[tactic(auto, unfolding(crate::specs::Row::item_of_row, crate::specs::Row::row_item))]
