@@ -11,6 +11,7 @@ use refusal::{Reason, Refusal};
 // Begins a whole batch whose body has this measure: decides every refusal, and where there is none writes header and block at the start
 // of out; the body is to follow, and ends at the length that is answered. Else out is as it was. No body has more than
 // list_writer::BODY_LEN_MAX bytes: such a measure is a 22.
+#[tactic(auto, unfolding(crate::specs::Front::front_encoded, list_writer::specs::Answers::laid))]
 pub fn begin(
     m: Result<Measured, Refusal>,
     items: usize,
@@ -19,8 +20,8 @@ pub fn begin(
 ) -> Result<usize, Refusal>
     ensures { FrontWritten m items content.now out.old result out.new }
 {
-    if let Ok(m) = m {
-        if list_writer::BODY_LEN_MAX < m.length {
+    if let Ok(body) = m {
+        if list_writer::BODY_LEN_MAX < body.length {
             return Err(outside(Reason::OutputTooLong));
         }
     }
@@ -32,6 +33,7 @@ pub fn begin(
 }
 
 // The answer to a batch whose body has this measure: every refusal is decided before a byte is written.
+#[tactic(auto, unfolding(crate::specs::Front::batch_encoded), using(crate::proofs::Planning::block_empty, crate::proofs::Planning::block_filled, crate::proofs::Planning::block_small))]
 fn plan(
     m: Result<Measured, Refusal>,
     items: usize,
@@ -44,14 +46,14 @@ fn plan(
     if items == 0 && content.is_empty() {
         return Ok(0);
     }
-    let m = m?;
-    if 2147483647 < m.total {
+    let body = m?;
+    if 2147483647 < body.total {
         return Err(outside(Reason::OutputTooLong));
     }
-    if m.total as usize != content.len() {
+    if body.total as usize != content.len() {
         return Err(outside(Reason::BlockDiffers));
     }
-    let size = body_offset(content) + m.length;
+    let size = body_offset(content) + body.length;
     if room < size {
         return Err(outside(Reason::OutputShort));
     }
@@ -59,6 +61,7 @@ fn plan(
 }
 
 // Where the body stands behind a block of this content.
+#[tactic(auto, using(crate::proofs::Planning::block_empty, crate::proofs::Planning::block_filled))]
 fn body_offset(content: &[u8]) -> usize
     requires { length content.now ≤ 2147483647 }
     ensures { result ≡ body_offset content.now }

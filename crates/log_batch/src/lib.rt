@@ -92,6 +92,7 @@ impl LogBatch {
     }
 
     // The frame that the first 16 bytes state.
+    #[tactic(auto, unfolding(crate::specs::Header::header, words::specs::Word::read_u64))]
     pub fn decode_header(buf: &[u8]) -> Result<LogBatch, Reason>
         ensures { header_got result ≡ header buf.now 0 }
     {
@@ -101,6 +102,7 @@ impl LogBatch {
     }
 
     // The frame of a batch whose header, length, compression type and block are right.
+    #[tactic(auto, unfolding(crate::specs::Batch::front_batch), using(crate::proofs::Frames::header_known))]
     pub fn check_front(buf: &[u8]) -> Result<LogBatch, Reason>
         ensures { header_got result ≡ front_batch buf.now 0 }
     {
@@ -201,7 +203,7 @@ fn encode_batch(
 }
 
 // What the two words of a header state.
-#[tactic(auto, using(crate::proofs::Frames::frame_type, crate::proofs::Frames::frame_above, crate::proofs::Frames::frame_below, crate::proofs::Frames::frame_good))]
+#[tactic(auto, unfolding(crate::specs::Header::frame))]
 fn read_frame(first: u64, second: u64) -> Result<LogBatch, Reason>
     ensures { header_got result ≡ frame first second 0 }
 {

@@ -6,6 +6,7 @@ use crate::LogBatch;
 use refusal::Reason;
 
 // Whether the last four bytes are the checksum of those before them XOR the signature: 5 or 6 where not.
+#[tactic(auto, unfolding(crate::specs::Seal::seal_check), using(crate::proofs::Sealing::footer_read))]
 pub fn check_seal(bytes: &[u8], signature: u32) -> Result<(), Reason>
     ensures { result ≡ seal_check bytes.now signature }
 {
@@ -21,6 +22,7 @@ pub fn check_seal(bytes: &[u8], signature: u32) -> Result<(), Reason>
 }
 
 // Whether a block is empty, or its last four bytes are the checksum of those before them: 5 or 6 where not.
+#[tactic(auto, unfolding(crate::specs::Seal::block_check))]
 pub(crate) fn check_block(block: &[u8]) -> Result<(), Reason>
     ensures { result ≡ block_check block.now }
 {

@@ -9,6 +9,7 @@ use refusal::Reason;
 
 // The bytes of an entry, as a part of whichever block its row's queue names. Where a check fails the part is empty, at that block's start;
 // `refused` is set at each call: to why that check failed, or to none.
+#[tactic(auto, unfolding(crate::specs::View::viewed))]
 pub fn entry_view<'a>(
     row: Location,
     append: &'a [u8],
@@ -25,6 +26,7 @@ pub fn entry_view<'a>(
 }
 
 // The same of one block.
+#[tactic(auto, unfolding(crate::specs::View::viewed, crate::specs::View::entry_check))]
 fn part_of<'a>(row: Location, block: &'a [u8], refused: &mut Option<Reason>) -> &'a [u8]
     ensures { (refused.new ≡ failed (view_check row block.now)) × (seen result ≡ viewed (view_check row block.now) row block.entry) }
 {
@@ -41,6 +43,7 @@ fn part_of<'a>(row: Location, block: &'a [u8], refused: &mut Option<Reason>) -> 
 
 // The first check of an entry against its block that fails: the block is to have the length `long`, and the entry's bytes stand in its
 // content.
+#[tactic(auto, unfolding(crate::specs::View::entry_check))]
 pub fn check_entry(block: &[u8], long: u64, offset: u64, len: u64) -> Result<(), Reason>
     ensures { result ≡ entry_check long offset len block.now }
 {
