@@ -8,7 +8,8 @@ ghost use Rattle.log_batch.specs.Reading.{read_items};
 ghost use Rattle.log_batch.specs.Total.{agreeing};
 ghost use Rattle.log_batch.specs.Body.{read_body};
 ghost use Rattle.rows_reader.specs.Lent.{Filled, RowsRead};
-ghost use Rattle.rows_reader.specs.Private.{Words, Fits};
+ghost use Rattle.rows_reader.specs.Private.{Fits};
+ghost use Rattle.words.specs.Write.{placed};
 
 use log_batch::{BodyCheck, LogBatch};
 use log_item::{EntryIndex, EntryIndexes, LogItem};
@@ -16,6 +17,7 @@ use refusal::{Reason, Refusal};
 
 // What a body with its footer holds, under a signature, where it comes to the entry total that is wanted (else 20) and all its rows fit in
 // those that are lent (else 21).
+#[tactic(auto, unfolding(log_batch::specs::Body::read_body, log_batch::specs::Seal::seal_check))]
 pub fn read_body(
     body: &[u8],
     signature: u32,
@@ -31,6 +33,7 @@ pub fn read_body(
 }
 
 // The same of a body without its footer.
+#[tactic(auto, using(crate::proofs::Reading::fits))]
 fn read_items(
     buf: &[u8],
     wanted: Option<usize>,
@@ -40,10 +43,8 @@ fn read_items(
     ensures { RowsRead (agreeing wanted (read_items Any buf.now)) items.old entries.old result items.new entries.new }
 {
     let check = log_batch::check_items(buf)?;
-    if let Some(total) = wanted {
-        if check.total as usize != total {
-            return Err(Refusal::from(Reason::BlockDiffers));
-        }
+    if wanted.is_some_and(|total| total != check.total as usize) {
+        return Err(Refusal::from(Reason::BlockDiffers));
     }
     if items.len() / 7 < check.items || entries.len() / 3 < check.entries {
         return Err(Refusal::from(Reason::OutputShort));
@@ -93,7 +94,7 @@ fn fill(buf: &[u8], items: &mut [u64], entries: &mut [u64])
 // Stores words at a place.
 fn put(words: &[u64], rows: &mut [u64], at: usize)
     requires { at + length words.now ≤ length rows.old }
-    ensures { Words rows.old at words.now rows.new }
+    ensures { rows.new ≡ placed rows.old at words.now }
 {
     let end = at + words.len();
     rows[at..end].copy_from_slice(words);
