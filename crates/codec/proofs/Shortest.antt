@@ -115,10 +115,6 @@ spell_pos (suc room) n = go (ltb n 128)
     go true = suc-le-suc zero-le
     go false = suc-le-suc zero-le
 
-pub shortest_pos : (n : ℕ) → 0 < length (shortest n)
-unfolding shortest
-shortest_pos n = spell_pos 9 n
-
 -- A spelling in bytes that is as short is the same.
 pub spell_only : (room : ℕ) {n : ℕ} {bs : List ℕ} → Groups n bs → ((i : ℕ) → get_or bs i 0 < 256) → length bs ≡ length (spell room n) → bs ≡ spell room n
 spell_only room {n} (last h) hb e = rw (spell_one room n h)

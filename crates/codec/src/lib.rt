@@ -23,6 +23,7 @@ pub enum NumberError {
 }
 
 // The length of the shortest spelling of n.
+#[tactic(auto, using(crate::proofs::Theorems::shortest_length))]
 pub fn var_u64_len(n: u64) -> usize
     ensures { result ≡ length (shortest n) }
 {
@@ -30,6 +31,7 @@ pub fn var_u64_len(n: u64) -> usize
 }
 
 // The number at a place, in any permitted spelling.
+#[tactic(auto, using(crate::proofs::Reading::first_short, crate::proofs::Reading::first_one, crate::proofs::Reading::so_far_one))]
 pub fn decode_var_u64(buf: &[u8], at: usize) -> Result<Piece<u64>, NumberError>
     ensures { result ≡ read_number buf.now at }
 {

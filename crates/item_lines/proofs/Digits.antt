@@ -7,8 +7,8 @@ use mathlib.Core.List.{List, [], ◌∷◌, ◌++◌, append_assoc, append-nil}
 use native.Mathlib.Omega.{arith}
 use native.Mathlib.Nat.{pow-suc}
 use lib.Dec.{ltb}
-use lib.ListN.{length, take, drop, set, length-set, length-drop, length-append, drop_of_length-le}
-use lib.Seq.{take_all, drop-cons, drop-set-lt, get_or-set_same}
+use lib.ListN.{length, drop, set, length-set, length-append, drop_of_length-le}
+use lib.Seq.{drop-cons, drop-set-lt, get_or-set_same}
 use borrow.Author.Tests.{lt-ltb, le-ltb, ltb-true, ltb-false}
 use Rattle.item_lines.specs.Decimal.{digits, decimal}
 
@@ -90,13 +90,7 @@ module _ {n : ℕ} {text : List ℕ} {left : ℕ} where
   puts_more zero w h = absurd (omega (arith, some_left zero w h))
   puts_more (suc i) w h = let e : suc i - 1 ≡ i = omega arith in rw e (next_digit i w h)
 
-  -- all of them are there
-  pub long_enough : {i : ℕ} → Puts n text i left → (d : ℕ) → 20 ≤ length (set text i d)
-  long_enough {i} w d = omega (arith, length-set text i d, w.long)
-
-  pub puts_end : {i : ℕ} → Puts n text i left → left < 10 → take (20 - i) (drop i (set text i (48 + left))) ≡ decimal n
+  pub puts_end : {i : ℕ} → Puts n text i left → left < 10 → drop i (set text i (48 + left)) ≡ decimal n
   puts_end {i} w h =
-      let all : length (drop i (set text i (48 + left))) ≤ 20 - i = omega (arith, length-drop i (set text i (48 + left)), length-set text i (48 + left), w.long) in
-      take_all (20 - i) (drop i (set text i (48 + left))) all
-      ∙ stands text i (48 + left) (omega (arith, w.within, w.long))
+      stands text i (48 + left) (omega (arith, w.within, w.long))
       ∙ ap (λ (l : List ℕ). l ++ drop (suc i) text) (sym (digits_one i left h)) ∙ w.same

@@ -1,5 +1,4 @@
 pub mod Digits
-pub mod Pieces
 pub mod Lines
 pub mod Theorems
 pub mod Determined

@@ -2,6 +2,7 @@
 -- Assumes nothing.
 use Rattle.std.specs.Prelude.{ℕ, List, [], ◌∷◌, ◌++◌}
 use Rattle.refusal.specs.declared.Refusal.{Refusal}
+use Rattle.refusal.specs.Number.{number_of}
 use Rattle.log_item.specs.declared.Command.{Command}
 use Rattle.log_item.specs.declared.Command.TheVariants.{Clean, Compact}
 use Rattle.log_item.specs.declared.KeyValue.{KeyValue}
@@ -84,4 +85,4 @@ sums_line i e b = line items (decimal i ∷ entries ∷ decimal e ∷ bytes ∷ 
 
 -- refused 15 0, number and item
 unfoldable pub refused_line : Refusal → List ℕ
-refused_line why = line refused (decimal why.number ∷ decimal why.item ∷ [])
+refused_line why = line refused (decimal (number_of why.reason) ∷ decimal why.item ∷ [])

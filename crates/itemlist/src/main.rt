@@ -1,14 +1,14 @@
 // Lists the items of a body without footer, which it reads from standard input: a line of sums, then a line for each command, key and
-// entry; or the refusal alone. The lines wait in a buffer, which goes to standard output where it is full; `at` is the number of bytes
-// that wait, and each function answers how many wait after it.
+// entry; or the refusal alone.
 #![tactic(auto)]
 
 ghost use Rattle.std.specs.Prelude.{◌≤◌, IfOk, length};
 
 use log_batch::LogItemBatch;
-use log_item::{EntryIndex, LogItem};
 use std::io::{self, Read};
-use words::Wrote;
+
+// No line is longer.
+const LINE: usize = 128;
 
 fn main(rt: HostRuntime) -> io::Result<()> {
     let mut input = [0u8; 65_536];
@@ -33,95 +33,41 @@ fn read_full(rt: &impl Input, buf: &mut [u8]) -> io::Result<usize>
 }
 
 fn list(rt: &impl Print, table: LogItemBatch) -> io::Result<()> {
-    let mut space = [0u8; 65_536];
-    let out: &mut [u8] = &mut space;
-    let why = table.refusal;
-    let end = if why.number == refusal::NONE {
-        let start = sums(table, out);
-        rows(rt, table, out, start)?
-    } else {
-        after(item_lines::refused_line(why, out, 0))
-    };
-    flush(rt, out, end)
-}
-
-fn sums(table: LogItemBatch, out: &mut [u8]) -> usize {
+    let mut line = [0u8; LINE];
+    if let Some(why) = table.refusal {
+        let end = item_lines::refused_line(why, &mut line, 0);
+        return show(rt, &line, end);
+    }
     let items = table.item_count as u64;
     let entries = table.entry_count as u64;
-    let bytes = table.total as u64;
-    after(item_lines::sums_line(items, entries, bytes, out, 0))
+    let bytes = u64::from(table.total);
+    let end = item_lines::sums_line(items, entries, bytes, &mut line, 0);
+    show(rt, &line, end)?;
+    rows(rt, table)
 }
 
 // The items in order, each with the next rows as its entries. A reading never fills more rows than the table has; that neither place
 // passes it is tested for the proof alone.
-fn rows(rt: &impl Print, table: LogItemBatch, out: &mut [u8], start: usize) -> io::Result<usize> {
-    let mut at = start;
-    let mut i: usize = 0;
-    let mut j: usize = 0;
-    let mut left: usize = 0;
-    let mut group: u64 = 0;
-    loop {
-        if 0 < left {
-            if 1024 <= j {
-                return Ok(at);
-            }
-            at = entry_line(rt, group, table.entries[j], out, at)?;
-            j += 1;
-            left -= 1;
-        } else {
-            if table.item_count <= i {
-                return Ok(at);
-            }
-            if 256 <= i {
-                return Ok(at);
-            }
-            let item = table.items[i];
-            at = item_line(rt, item, out, at)?;
-            group = item.raft_group_id;
-            let entries = item.entries();
-            left = entries.count;
-            i += 1;
+fn rows(rt: &impl Print, table: LogItemBatch) -> io::Result<()> {
+    let mut line = [0u8; LINE];
+    let mut used: usize = 0;
+    for &item in &table.items[..table.item_count.min(256)] {
+        let end = item_lines::item_line(item, &mut line, 0);
+        show(rt, &line, end)?;
+        let start = used;
+        used = used.saturating_add(item.entries().count).min(1024);
+        if used < start {
+            return Ok(());
         }
-    }
-}
-
-fn entry_line(
-    rt: &impl Print,
-    group: u64,
-    row: EntryIndex,
-    out: &mut [u8],
-    at: usize,
-) -> io::Result<usize> {
-    match item_lines::entry_line(group, row, out, at) {
-        Wrote::Next(next) => Ok(next),
-        Wrote::NoRoom => {
-            flush(rt, out, at)?;
-            Ok(after(item_lines::entry_line(group, row, out, 0)))
+        for &row in &table.entries[start..used] {
+            let end = item_lines::entry_line(item.raft_group_id, row, &mut line, 0);
+            show(rt, &line, end)?;
         }
-    }
-}
-
-fn item_line(rt: &impl Print, item: LogItem, out: &mut [u8], at: usize) -> io::Result<usize> {
-    match item_lines::item_line(item, out, at) {
-        Wrote::Next(next) => Ok(next),
-        Wrote::NoRoom => {
-            flush(rt, out, at)?;
-            Ok(after(item_lines::item_line(item, out, 0)))
-        }
-    }
-}
-
-// The place after a line that was put at the start of the buffer, where each has room.
-fn after(wrote: Wrote) -> usize {
-    match wrote {
-        Wrote::Next(next) => next,
-        Wrote::NoRoom => 0,
-    }
-}
-
-fn flush(rt: &impl Print, out: &[u8], at: usize) -> io::Result<()> {
-    if at <= out.len() {
-        rt.write_all(&out[..at])?;
     }
     Ok(())
+}
+
+// Writes the line that was put at the start of a buffer, where each has room.
+fn show(rt: &impl Print, line: &[u8], end: Option<usize>) -> io::Result<()> {
+    rt.write_all(line.get(..end.unwrap_or(0)).unwrap_or(&[]))
 }

@@ -22,14 +22,12 @@ behind_first x w free i h = free (suc i) (omega arith)
 
 -- where the first space stands
 at_seam : (w rest : List ℕ) → Solid w → index_of space (w ++ (space ∷ rest)) ≡ length w
-unfolding index_of
 at_seam [] rest free = refl
-at_seam (x ∷ w) rest free = rw (ne_eqb x space (free 0 (omega arith))) (ap suc (at_seam w rest (behind_first x w free)))
+at_seam (x ∷ w) rest free = rw (ne_eqb x space (free 0 (omega arith))) (omega (arith, at_seam w rest (behind_first x w free)))
 
 at_end : (w : List ℕ) → Solid w → index_of space w ≡ length w
-unfolding index_of
 at_end [] free = refl
-at_end (x ∷ w) free = rw (ne_eqb x space (free 0 (omega arith))) (ap suc (at_end w (behind_first x w free)))
+at_end (x ∷ w) free = rw (ne_eqb x space (free 0 (omega arith))) (omega (arith, at_end w (behind_first x w free)))
 
 -- Up to the first space stands word 0, and behind it the words that follow.
 pub first_word : (w rest : List ℕ) → Solid w → word_of (w ++ (space ∷ rest)) 0 ≡ w

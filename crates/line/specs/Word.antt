@@ -1,13 +1,13 @@
 -- The words of a line: what stands between its spaces, counted from 0. Between two spaces in a row stands an empty word.
 -- Assumes nothing.
-use Rattle.std.specs.Prelude.{ℕ, zero, suc, ◌+◌, ◌-◌, ◌<◌, min, ◌≡◌, cond, List, [], ◌∷◌, eqb, leb, length, get_or, take, drop}
+use Rattle.std.specs.Prelude.{ℕ, zero, suc, ◌+◌, ◌-◌, ◌<◌, min, ◌≡◌, ◌==◌, cond, List, leb, length, get_or, take, drop}
+use Rattle.std.specs.List.{position_or_len}
 use Rattle.std.specs.Borrow.{Bor}
 use Rattle.words.specs.Part.{Part, part_at, front_of}
 
 -- how many elements stand before the first b, or all where there is none
-unfoldable pub index_of : ℕ → List ℕ → ℕ
-index_of b [] = 0
-index_of b (x ∷ xs) = cond (eqb x b) 0 (suc (index_of b xs))
+abbrev pub index_of : ℕ → List ℕ → ℕ
+index_of b = position_or_len (λ x. x == b)
 
 -- the ASCII code of a space
 abbrev pub space : ℕ

@@ -4,7 +4,7 @@
 // counts as the digit 0.
 #![tactic(auto)]
 
-ghost use Rattle.std.specs.Prelude.{◌≡◌, ◌++◌, ◌+◌, ◌*◌, ◌%◌, ◌^◌, min, length, get_or, take, drop};
+ghost use Rattle.std.specs.Prelude.{◌≡◌, ◌==◌, position, ◌++◌, ◌+◌, ◌*◌, ◌%◌, ◌^◌, min, length, get_or, take, drop};
 ghost use Rattle.words.specs.Part.{seen, front_of};
 ghost use Rattle.line.specs.Word.{index_of, space, between, word_of, words_part, word_part};
 ghost use Rattle.line.specs.Hex.{digit_of, hex_number, hex_bytes};
@@ -16,14 +16,15 @@ pub fn find(text: &[u8], at: usize, b: u8) -> usize
     if text.len() < at {
         return at;
     }
-    let mut place = at;
-    while place < text.len() {
-        if text[place] == b {
-            return place;
-        }
-        place += 1;
-    }
-    place
+    let rest = &text[at..];
+    at + first(rest, b).unwrap_or(rest.len())
+}
+
+// The place of the first b.
+fn first(text: &[u8], b: u8) -> Option<usize>
+    ensures { result ≡ position (λ x. x == b) text.now }
+{
+    text.iter().position(|&x| x == b)
 }
 
 // The bytes from one place up to another, as far as there are such; where the first lies behind the second or behind the text, nothing, at
@@ -31,7 +32,7 @@ pub fn find(text: &[u8], at: usize, b: u8) -> usize
 pub fn part(text: &[u8], start: usize, end: usize) -> &[u8]
     ensures { seen result ≡ between text.entry start end }
 {
-    let to = words::least(end, text.len());
+    let to = end.min(text.len());
     if to < start {
         return &text[..0];
     }
@@ -46,19 +47,18 @@ pub fn front(text: &[u8], n: usize) -> &[u8]
 }
 
 // What stands from a word on; nothing, at the line's end, where there are fewer words.
+#[tactic(auto, using(crate::proofs::Places::from_start, crate::proofs::Places::word_passed, crate::proofs::Places::from_end))]
 pub fn words_from(line: &[u8], k: usize) -> &[u8]
     ensures { seen result ≡ words_part line.entry k }
 {
     let mut at = 0;
-    let mut left = k;
-    while 0 < left {
+    for _ in 0..k {
         at = find(line, at, b' ');
         if line.len() <= at {
             let end = line.len();
             return &line[end..];
         }
         at += 1;
-        left -= 1;
     }
     &line[at..]
 }
@@ -75,18 +75,17 @@ pub fn word(line: &[u8], k: usize) -> &[u8]
 pub fn first_letter(line: &[u8]) -> u8
     ensures { result ≡ get_or line.now 0 space }
 {
-    if 0 < line.len() { line[0] } else { b' ' }
+    line.first().copied().unwrap_or(b' ')
 }
 
 // The low 64 bits of the number that these digits spell.
+#[tactic(auto, using(crate::proofs::Digits::digit_small, crate::proofs::Digits::one_more), unfolding(crate::specs::Hex::hex_number))]
 pub fn value(digits: &[u8]) -> u64
     ensures { result ≡ hex_number digits.now % 2 ^ 64 }
 {
     let mut n: u64 = 0;
-    let mut i = 0;
-    while i < digits.len() {
-        n = (n << 4) + words::wide(digit(digits[i]));
-        i += 1;
+    for &d in digits {
+        n = (n << 4) + u64::from(digit(d));
     }
     n
 }
@@ -113,19 +112,19 @@ pub fn low(n: u64) -> u32
 }
 
 // Puts the bytes that a word spells at the start of out, as far as there is room, and answers how many.
+#[tactic(auto, using(crate::proofs::Digits::byte_laid, crate::proofs::Digits::length_bytes))]
 pub fn bytes(line: &[u8], k: usize, out: &mut [u8]) -> usize
     ensures { (result ≡ min (length out.old) (length (hex_bytes (word_of line.now k)))) × (out.new ≡ take result (hex_bytes (word_of line.now k)) ++ drop result out.old) }
 {
     let digits = word(line, k);
-    let n = words::least(out.len(), digits.len() / 2);
-    let mut i = 0;
-    while i < n {
+    let n = out.len().min(digits.len() / 2);
+    for i in 0..n {
         out[i] = byte(digits[2 * i], digits[2 * i + 1]);
-        i += 1;
     }
     n
 }
 
+#[tactic(auto, using(crate::proofs::Digits::digit_small))]
 fn byte(high: u8, low: u8) -> u8
     ensures { result ≡ digit_of high * 16 + digit_of low }
 {
@@ -133,20 +132,13 @@ fn byte(high: u8, low: u8) -> u8
 }
 
 // The value of a digit.
+#[tactic(auto, unfolding(crate::specs::Hex::digit_of))]
 fn digit(b: u8) -> u8
     ensures { result ≡ digit_of b }
 {
-    if b < b'0' {
-        return 0;
+    match b {
+        b'0'..=b'9' => b - b'0',
+        b'a'..=b'f' => b - b'a' + 10,
+        _ => 0,
     }
-    if b <= b'9' {
-        return b - b'0';
-    }
-    if b < b'a' {
-        return 0;
-    }
-    if b <= b'f' {
-        return b - b'a' + 10;
-    }
-    0
 }

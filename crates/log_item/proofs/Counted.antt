@@ -10,7 +10,7 @@ use Rattle.log_item.specs.Got.{Got, got, refused, Reading, done, bind}
 use Rattle.log_item.specs.Entries.{entries_of, tail_row}
 use Rattle.log_item.specs.Reading.{Read, head, tail, tails, with_tails, one_item}
 use Rattle.log_item.specs.Answers.{counted_item, pass_item}
-use Rattle.log_item.specs.Private.{pass_tails}
+use Rattle.log_item.specs.Passing.{pass_tails}
 use Rattle.log_item.specs.declared.Form.{Form}
 use Rattle.log_item.specs.declared.EntryIndex.{EntryIndex}
 use Rattle.log_item.specs.declared.EntryIndexes.{EntryIndexes}

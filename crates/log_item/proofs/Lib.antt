@@ -3,6 +3,7 @@ pub mod NumberGot
 pub mod Pieces
 pub mod Starts
 pub mod Every
+pub mod Reading
 pub mod Counted
 pub mod Passing
 pub mod Short

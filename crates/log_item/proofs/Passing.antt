@@ -8,7 +8,7 @@ use Rattle.log_item.specs.Entries.{entries_of}
 use Rattle.log_item.specs.Pieces.{byte, number}
 use Rattle.log_item.specs.Reading.{entry_indexes, content, head}
 use Rattle.log_item.specs.Answers.{pass_item}
-use Rattle.log_item.specs.Private.{pass_tails, pass_stated, pass_entries, pass_content}
+use Rattle.log_item.specs.Passing.{pass_tails, pass_stated, pass_entries, pass_content}
 use Rattle.log_item.specs.declared.Form.{Form}
 use Rattle.log_item.specs.declared.EntryIndexes.{EntryIndexes}
 use Rattle.log_item.specs.declared.ItemRead.{ItemRead}

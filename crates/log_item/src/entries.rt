@@ -3,7 +3,7 @@ ghost use Rattle.std.specs.Prelude.{◌≡◌};
 ghost use Rattle.words.specs.Got.{got_of};
 ghost use Rattle.log_item.specs.Pieces.{number};
 ghost use Rattle.log_item.specs.Reading.{entry_count_of, first_index_of, tail};
-ghost use Rattle.log_item.specs.Private.{as_tail, pass_tails};
+ghost use Rattle.log_item.specs.Passing.{as_tail, pass_tails};
 
 use crate::piece::read_number_in;
 use crate::{EntryIndexes, Form};
@@ -87,7 +87,7 @@ pub(crate) fn skip_tails(
 }
 
 // The tail at a place, with the total `before` it.
-#[tactic(auto, unfolding(crate::specs::Reading::tail, crate::specs::Private::as_tail))]
+#[tactic(auto, unfolding(crate::specs::Reading::tail, crate::specs::Passing::as_tail))]
 fn read_tail(buf: &[u8], at: usize, before: u32, form: Form) -> Result<Piece<u32>, Reason>
     ensures { got_of result ≡ tail form buf.now before at }
 {
@@ -95,7 +95,7 @@ fn read_tail(buf: &[u8], at: usize, before: u32, form: Form) -> Result<Piece<u32
 }
 
 // The tail that a number is, with the total `before` it.
-#[tactic(auto, unfolding(crate::specs::Private::as_tail))]
+#[tactic(auto, unfolding(crate::specs::Passing::as_tail))]
 pub(crate) fn as_tail(number: Piece<u64>, before: u32) -> Result<Piece<u32>, Reason>
     ensures { got_of result ≡ as_tail before number.value number.next }
 {

@@ -182,7 +182,7 @@ impl LogItem {
 
 impl EntryIndexes {
     // The tail at a place, with the total `before` it.
-    #[tactic(auto, unfolding(crate::specs::Reading::tail, crate::specs::Private::as_tail))]
+    #[tactic(auto, unfolding(crate::specs::Reading::tail, crate::specs::Passing::as_tail))]
     pub fn decode_tail(buf: &[u8], at: usize, before: u32) -> Result<Piece<u32>, Reason>
         ensures { got_of result ≡ tail Form.Any buf.now before at }
     {

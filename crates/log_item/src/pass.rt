@@ -2,7 +2,7 @@
 ghost use Rattle.std.specs.Prelude.{◌≡◌};
 ghost use Rattle.words.specs.Got.{got_of};
 ghost use Rattle.log_item.specs.Answers.{passed_of, pass_item, not_passed};
-ghost use Rattle.log_item.specs.Private.{pass_entries, pass_content};
+ghost use Rattle.log_item.specs.Passing.{pass_entries, pass_content};
 
 use crate::entries::{read_count, read_first_index, skip_tails};
 use crate::piece::{read_byte, read_number_in};
@@ -49,7 +49,7 @@ fn pass_item(buf: &[u8], at: usize, before: Passed, form: Form) -> Result<Piece<
 }
 
 // The content of an item of a type, and its tails. After a command or a key the total and the number of entries are as before.
-#[tactic(auto, using(crate::proofs::Passing::passed_entries), unfolding(crate::specs::Private::pass_content, crate::specs::Private::pass_tails, crate::specs::Reading::content, crate::specs::Reading::tails))]
+#[tactic(auto, using(crate::proofs::Passing::passed_entries), unfolding(crate::specs::Passing::pass_content, crate::specs::Passing::pass_tails, crate::specs::Reading::content, crate::specs::Reading::tails))]
 fn pass_content(
     buf: &[u8],
     at: usize,
@@ -73,7 +73,7 @@ fn pass_content(
 
 // A count of entries, their first index and their tails. The readers of EntryIndexes::decode are called one by one: each by itself is
 // small enough to be compiled in line here and there.
-#[tactic(auto, using(crate::proofs::Known::count_known, crate::proofs::Known::first_count), unfolding(crate::specs::Private::pass_entries, crate::specs::Reading::entry_indexes))]
+#[tactic(auto, using(crate::proofs::Known::count_known, crate::proofs::Known::first_count), unfolding(crate::specs::Passing::pass_entries, crate::specs::Reading::entry_indexes))]
 fn pass_entries(buf: &[u8], at: usize, before: Passed, form: Form) -> Result<Piece<Passed>, Reason>
     ensures { got_of result ≡ pass_entries form buf.now before.used before.total at }
 {

@@ -1,20 +1,23 @@
 -- The replies of the rewrite and the fetch of locations.
 -- Assumes nothing.
-use Rattle.std.specs.Prelude.{ℕ, Bool, true, false, [], ◌∷◌}
-use Rattle.location_rules.specs.declared.Gate.{Gate}
+use Rattle.std.specs.Prelude.{ℕ, Bool, true, false, Option, Some, None, Result, Ok, Err, [], ◌∷◌}
+use Rattle.refusal.specs.declared.Reason.{Reason}
+use Rattle.refusal.specs.Number.{number_of}
 use Rattle.location_rules.specs.declared.Rewritten.{Rewritten}
 use Rattle.location_rules.specs.declared.Fetched.{Fetched}
 use Rattle.item_row.specs.Reply.{Reply, reply}
 
 -- the gate counts where one is given
-abbrev pub gate_of : Bool → ℕ → Gate
-gate_of true gate = Gate.Given gate
-gate_of false gate = Gate.None
+abbrev pub gate_of : Bool → ℕ → Option ℕ
+gate_of true gate = Some gate
+gate_of false gate = None
 
--- rows replaced, rewritten count
-abbrev pub rewrite_reply : Rewritten → Reply
-rewrite_reply r = reply r.number (r.replaced ∷ r.count ∷ [])
+-- rows replaced, rewritten count; a refusal leaves the count
+abbrev pub rewrite_reply : ℕ → Result Rewritten Reason → Reply
+rewrite_reply count (Ok r) = reply 0 (r.replaced ∷ r.count ∷ [])
+rewrite_reply count (Err r) = reply (number_of r) (0 ∷ count ∷ [])
 
 -- place, length
-abbrev pub fetch_reply : Fetched → Reply
-fetch_reply f = reply f.number (f.place ∷ f.len ∷ [])
+abbrev pub fetch_reply : Result Fetched Reason → Reply
+fetch_reply (Ok f) = reply 0 (f.place ∷ f.len ∷ [])
+fetch_reply (Err r) = reply (number_of r) (0 ∷ 0 ∷ [])

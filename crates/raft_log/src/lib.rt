@@ -7,7 +7,8 @@ mod locations;
 mod reading;
 mod writing;
 
-ghost use Rattle.std.specs.Prelude.{◌≡◌};
+ghost use Rattle.std.specs.Prelude.{◌≡◌, MatchResult, replicate};
+ghost use Rattle.refusal.specs.Number.{number_of};
 ghost use Rattle.crc.specs.Crc.{crc_of};
 ghost use Rattle.codec.specs.Shortest.{shortest};
 ghost use Rattle.words.specs.Write.{wrote_at, placed};
@@ -17,14 +18,29 @@ ghost use Rattle.log_batch.specs.Body.{read_body};
 ghost use Rattle.log_batch.specs.Answers.{check_of, plain_body};
 ghost use Rattle.log_batch.specs.Header.{header};
 ghost use Rattle.item_row.specs.Reply.{reply};
-ghost use Rattle.raft_log.specs.Answers.{number_reply, wrote_reply, header_reply, check_reply, plain_reply, queue_check, view_of, status_reply, row_status};
+ghost use Rattle.raft_log.specs.Answers.{number_reply, wrote_reply, header_reply, check_reply, plain_reply, queue_check, view_of, row_mark, mark_word, row_status};
 
-use codec::{NumberRead, Wrote};
-use item_row::ItemRowRead;
 pub use locations::{raft_log_fetch, raft_log_rewrite};
-use log_batch::{AtomicGroupStatus, BodyCheck, HeaderRead, LogBatch, PlainForm, StatusRead};
+use log_batch::{AtomicGroupStatus, BodyCheck, LogBatch, Mark};
 pub use reading::{raft_log_read_batch, raft_log_read_body};
+use refusal::{Reason, Refusal};
 pub use writing::{raft_log_write_batch, raft_log_write_body};
+
+// The words of an answer and 0; or the number of the reason, and words that are 0.
+fn put<const N: usize>(got: Result<[u64; N], Reason>, answer: &mut [u64; N]) -> u32
+    ensures { MatchResult got (λ words. reply result answer.new ≡ reply 0 words) (λ r. reply result answer.new ≡ reply (number_of r) (replicate N 0)) }
+{
+    match got {
+        Ok(words) => {
+            *answer = words;
+            0
+        }
+        Err(reason) => {
+            *answer = [0; N];
+            reason.number()
+        }
+    }
+}
 
 // The checksum.
 #[unsafe(no_mangle)]
@@ -40,18 +56,8 @@ pub extern "C" fn raft_log_read_number(data: &[u8], at: usize, answer: &mut [u64
     ensures { reply result answer.new ≡ number_reply (any_number «data».now at) }
 {
     match codec::decode_var_u64_unrolled(data, at) {
-        NumberRead::Done { value, next } => {
-            *answer = [value, next as u64];
-            refusal::NONE
-        }
-        NumberRead::Eof => {
-            *answer = [0, 0];
-            refusal::NUMBER_BROKEN
-        }
-        NumberRead::Overflow => {
-            *answer = [0, 0];
-            refusal::NUMBER_BROKEN
-        }
+        Ok(number) => put(Ok([number.value, number.next as u64]), answer),
+        Err(_) => put(Err(Reason::NumberBroken), answer),
     }
 }
 
@@ -66,14 +72,8 @@ pub extern "C" fn raft_log_write_number(
     ensures { (reply result answer.new ≡ wrote_reply (wrote_at out.old at (shortest number))) × (out.new ≡ placed out.old at (shortest number)) }
 {
     match codec::encode_var_u64_unrolled(number, out, at) {
-        Wrote::Next(next) => {
-            *answer = [next as u64];
-            refusal::NONE
-        }
-        Wrote::NoRoom => {
-            *answer = [0];
-            refusal::OUTPUT_SHORT
-        }
+        Some(next) => put(Ok([next as u64]), answer),
+        None => put(Err(Reason::OutputShort), answer),
     }
 }
 
@@ -83,18 +83,15 @@ pub extern "C" fn raft_log_read_header(data: &[u8], answer: &mut [u64; 3]) -> u3
     ensures { reply result answer.new ≡ header_reply (header «data».now 0) }
 {
     match LogBatch::decode_header(data) {
-        HeaderRead::Done { batch } => {
-            *answer = [
+        Ok(batch) => {
+            let words = [
                 batch.offset as u64,
                 batch.len as u64,
-                batch.compression as u64,
+                u64::from(batch.compression),
             ];
-            refusal::NONE
+            put(Ok(words), answer)
         }
-        HeaderRead::Refused(number) => {
-            *answer = [0, 0, 0];
-            number
-        }
+        Err(reason) => put(Err(reason), answer),
     }
 }
 
@@ -103,26 +100,26 @@ pub extern "C" fn raft_log_read_header(data: &[u8], answer: &mut [u64; 3]) -> u3
 pub extern "C" fn raft_log_check_body(body: &[u8], signature: u32, answer: &mut [u64; 5]) -> u32
     ensures { reply result answer.new ≡ check_reply (check_of (read_body body.now signature)) }
 {
-    let r = log_batch::check(body, signature);
-    put_check(r, answer)
+    put_check(log_batch::check(body, signature), answer)
 }
 
-fn put_check(check: BodyCheck, answer: &mut [u64; 5]) -> u32
+fn put_check(check: Result<BodyCheck, Refusal>, answer: &mut [u64; 5]) -> u32
     ensures { reply result answer.new ≡ check_reply check }
 {
     match check {
-        BodyCheck::Accepted {
-            items,
-            entries,
-            total,
-            next,
-        } => {
-            *answer = [0, items as u64, entries as u64, total as u64, next as u64];
-            refusal::NONE
+        Ok(held) => {
+            *answer = [
+                0,
+                held.items as u64,
+                held.entries as u64,
+                u64::from(held.total),
+                held.next as u64,
+            ];
+            0
         }
-        BodyCheck::Refused(refusal) => {
-            *answer = [refusal.item as u64, 0, 0, 0, 0];
-            refusal.number
+        Err(why) => {
+            *answer = [why.item as u64, 0, 0, 0, 0];
+            why.reason.number()
         }
     }
 }
@@ -133,17 +130,13 @@ pub extern "C" fn raft_log_is_plain(body: &[u8], signature: u32, answer: &mut [u
     ensures { reply result answer.new ≡ plain_reply (plain_body body.now signature) }
 {
     match log_batch::plain(body, signature) {
-        PlainForm::Yes => {
-            *answer = [0, 1];
-            refusal::NONE
+        Ok(plain) => {
+            *answer = [0, u64::from(plain)];
+            0
         }
-        PlainForm::No => {
-            *answer = [0, 0];
-            refusal::NONE
-        }
-        PlainForm::Refused(refusal) => {
-            *answer = [refusal.item as u64, 0];
-            refusal.number
+        Err(why) => {
+            *answer = [why.item as u64, 0];
+            why.reason.number()
         }
     }
 }
@@ -158,28 +151,29 @@ pub extern "C" fn raft_log_entry_view(
 ) -> u32
     ensures { reply result answer.new ≡ view_of row.now append.now rewrite.now }
 {
-    let offset = row[4];
-    let len = row[5];
-    let number = check_view(row[0], row[3], offset, len, append, rewrite);
-    if number != refusal::NONE {
-        *answer = [0, 0];
-        return number;
+    let [queue, _, _, long, offset, len] = *row;
+    match check_view(queue, long, offset, len, append, rewrite) {
+        Ok(()) => put(Ok([offset, len]), answer),
+        Err(reason) => put(Err(reason), answer),
     }
-    *answer = [offset, len];
-    number
 }
 
-// The first check that fails of an entry against the block that its queue names, or 0.
-fn check_view(queue: u64, long: u64, offset: u64, len: u64, append: &[u8], rewrite: &[u8]) -> u32
+// Checks an entry against the block that its queue names.
+fn check_view(
+    queue: u64,
+    long: u64,
+    offset: u64,
+    len: u64,
+    append: &[u8],
+    rewrite: &[u8],
+) -> Result<(), Reason>
     ensures { result ≡ queue_check queue long offset len append.now rewrite.now }
 {
-    if queue == 0 {
-        return log_batch::check_entry(append, long, offset, len);
+    match queue {
+        0 => log_batch::check_entry(append, long, offset, len),
+        1 => log_batch::check_entry(rewrite, long, offset, len),
+        _ => Err(Reason::TableBroken),
     }
-    if queue == 1 {
-        return log_batch::check_entry(rewrite, long, offset, len);
-    }
-    refusal::TABLE_BROKEN
 }
 
 // The status that an item row marks.
@@ -187,35 +181,26 @@ fn check_view(queue: u64, long: u64, offset: u64, len: u64, append: &[u8], rewri
 pub extern "C" fn raft_log_status(row: &[u64; 7], store: &[u8], answer: &mut [u64; 2]) -> u32
     ensures { reply result answer.new ≡ row_status (item_of_row row.now 0) store.now }
 {
-    match item_row::item_of(row[0], row[1], row[2], row[3], row[4], row[5], row[6]) {
-        ItemRowRead::Refused(number) => {
-            *answer = [0, 0];
-            number
-        }
-        ItemRowRead::Item(item) => put_status(AtomicGroupStatus::parse(item, store), answer),
+    match status_of(row, store) {
+        Ok(Some(mark)) => put(Ok([mark_word(mark.status), mark.id]), answer),
+        Ok(None) => put(Ok([0, 0]), answer),
+        Err(reason) => put(Err(reason), answer),
     }
 }
 
-fn put_status(status: StatusRead, answer: &mut [u64; 2]) -> u32
-    ensures { reply result answer.new ≡ status_reply status }
+fn status_of(row: &[u64; 7], store: &[u8]) -> Result<Option<Mark>, Reason>
+    ensures { result ≡ row_mark (item_of_row row.now 0) store.now }
+{
+    let item = item_row::item_of(row)?;
+    AtomicGroupStatus::parse(item, store)
+}
+
+fn mark_word(status: AtomicGroupStatus) -> u64
+    ensures { result ≡ mark_word status }
 {
     match status {
-        StatusRead::Mark { id, status: mark } => {
-            let word = match mark {
-                AtomicGroupStatus::Begin => 1,
-                AtomicGroupStatus::Middle => 2,
-                AtomicGroupStatus::End => 3,
-            };
-            *answer = [word, id];
-            refusal::NONE
-        }
-        StatusRead::NoMark => {
-            *answer = [0, 0];
-            refusal::NONE
-        }
-        StatusRead::Refused(refusal) => {
-            *answer = [0, 0];
-            refusal.number
-        }
+        AtomicGroupStatus::Begin => 1,
+        AtomicGroupStatus::Middle => 2,
+        AtomicGroupStatus::End => 3,
     }
 }

@@ -5,7 +5,7 @@ ghost use Rattle.item_row.specs.Reply.{reply};
 ghost use Rattle.raft_log.specs.Answers.{Replied};
 ghost use Rattle.raft_log.specs.Locations.{gate_of, rewrite_reply, fetch_reply};
 
-use location_rules::Gate;
+use crate::put;
 
 // Replaces rows of a location table by incoming ones.
 #[unsafe(no_mangle)]
@@ -19,16 +19,19 @@ pub extern "C" fn raft_log_rewrite(
     gate: u64,
     answer: &mut [u64; 2],
 ) -> u32
-    ensures { Replied (λ a. RowsRewritten table.old (table_from first_index rewritten) incoming.now incoming_first (gate_of with_gate gate) a table.new) rewrite_reply (reply result answer.new) }
+    ensures { Replied (λ a. RowsRewritten table.old (table_from first_index rewritten) incoming.now incoming_first (gate_of with_gate gate) a table.new) (rewrite_reply rewritten) (reply result answer.new) }
 {
-    let g = if with_gate {
-        Gate::Given(gate)
-    } else {
-        Gate::None
-    };
-    let r = location_rows::rewrite(table, first_index, rewritten, incoming, incoming_first, g);
-    *answer = [r.replaced as u64, r.count as u64];
-    r.number
+    let g = if with_gate { Some(gate) } else { None };
+    match location_rows::rewrite(table, first_index, rewritten, incoming, incoming_first, g) {
+        Ok(r) => {
+            *answer = [r.replaced as u64, r.count as u64];
+            0
+        }
+        Err(reason) => {
+            *answer = [0, rewritten];
+            reason.number()
+        }
+    }
 }
 
 // The longest run of rows from the rewritten count on whose file number is at most the gate.
@@ -42,7 +45,8 @@ pub extern "C" fn raft_log_fetch(
 ) -> u32
     ensures { reply result answer.new ≡ fetch_reply (fetch_words table.now (table_from first_index rewritten) gate) }
 {
-    let r = location_rows::fetch(table, first_index, rewritten, gate);
-    *answer = [r.place as u64, r.len as u64];
-    r.number
+    match location_rows::fetch(table, first_index, rewritten, gate) {
+        Ok(run) => put(Ok([run.place as u64, run.len as u64]), answer),
+        Err(reason) => put(Err(reason), answer),
+    }
 }

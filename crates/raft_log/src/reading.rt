@@ -8,7 +8,7 @@ ghost use Rattle.raft_log.specs.Answers.{Replied, check_reply, batch_reply};
 
 use crate::put_check;
 use batch_rows::BatchCheck;
-use log_batch::{BodyCheck, Wanted};
+use refusal::Refusal;
 
 // A body, read into rows.
 #[unsafe(no_mangle)]
@@ -21,7 +21,7 @@ pub extern "C" fn raft_log_read_body(
 ) -> u32
     ensures { Replied (λ a. RowsRead (read_body body.now signature) items.old entries.old a items.new entries.new) check_reply (reply result answer.new) }
 {
-    let r = rows_reader::read_body(body, signature, Wanted::Free, items, entries);
+    let r = rows_reader::read_body(body, signature, None, items, entries);
     put_check(r, answer)
 }
 
@@ -34,39 +34,33 @@ pub extern "C" fn raft_log_read_batch(
     entries: &mut [u64],
     answer: &mut [u64; 9],
 ) -> u32
-    ensures { Replied (λ a. BatchReadInto «data».now signature items.old entries.old a items.new entries.new) (λ a. batch_reply a.check a.body a.block) (reply result answer.new) }
+    ensures { Replied (λ a. BatchReadInto «data».now signature items.old entries.old a items.new entries.new) batch_reply (reply result answer.new) }
 {
     let r = batch_rows::read_rows(data, signature, items, entries);
     put_batch(r, answer)
 }
 
-fn put_batch(batch: BatchCheck, answer: &mut [u64; 9]) -> u32
-    ensures { reply result answer.new ≡ batch_reply batch.check batch.body batch.block }
+fn put_batch(batch: Result<BatchCheck, Refusal>, answer: &mut [u64; 9]) -> u32
+    ensures { reply result answer.new ≡ batch_reply batch }
 {
-    let check = batch.check;
-    match check {
-        BodyCheck::Accepted {
-            items,
-            entries,
-            total,
-            next,
-        } => {
+    match batch {
+        Ok(held) => {
             *answer = [
                 0,
-                items as u64,
-                entries as u64,
-                total as u64,
-                next as u64,
-                batch.body.at as u64,
-                batch.body.len as u64,
-                batch.block.at as u64,
-                batch.block.len as u64,
+                held.check.items as u64,
+                held.check.entries as u64,
+                u64::from(held.check.total),
+                held.check.next as u64,
+                held.body.at as u64,
+                held.body.len as u64,
+                held.block.at as u64,
+                held.block.len as u64,
             ];
-            refusal::NONE
+            0
         }
-        BodyCheck::Refused(refusal) => {
-            *answer = [refusal.item as u64, 0, 0, 0, 0, 0, 0, 0, 0];
-            refusal.number
+        Err(why) => {
+            *answer = [why.item as u64, 0, 0, 0, 0, 0, 0, 0, 0];
+            why.reason.number()
         }
     }
 }

@@ -1,10 +1,8 @@
 // Whether the words of the Rust's answer are given ones: a number, a text, bytes in hex, or a refusal.
+use refusal::Reason;
 
 pub(crate) fn is_number(line: &[u8], k: usize, n: u64) -> bool {
-    if line::word(line, k).len() == 0 {
-        return false;
-    }
-    line::number(line, k) == n
+    !line::word(line, k).is_empty() && line::number(line, k) == n
 }
 
 // Whether a word is this text.
@@ -15,7 +13,7 @@ pub(crate) fn is_word(line: &[u8], k: usize, text: &[u8]) -> bool {
 // Whether a word spells these bytes; `-` spells none. The buffer is longer than any bytes that are asked for, so that a word which is cut to it
 // differs.
 pub(crate) fn is_bytes(line: &[u8], k: usize, bytes: &[u8]) -> bool {
-    if bytes.len() == 0 {
+    if bytes.is_empty() {
         return is_word(line, k, b"-");
     }
     let mut buf = [0u8; 2048];
@@ -24,12 +22,8 @@ pub(crate) fn is_bytes(line: &[u8], k: usize, bytes: &[u8]) -> bool {
 }
 
 // Whether the answer from a word on is this refusal.
-pub(crate) fn is_refused(line: &[u8], k: usize, number: u32) -> bool {
-    if 1000 < k {
-        return false;
-    }
-    if is_word(line, k, b"refused") {
-        return is_number(line, k + 1, number as u64);
-    }
-    false
+pub(crate) fn is_refused(line: &[u8], k: usize, reason: Reason) -> bool {
+    k <= 1000
+        && is_word(line, k, b"refused")
+        && is_number(line, k + 1, u64::from(reason.number()))
 }

@@ -1,7 +1,7 @@
 // Headers, whole batches written, blocks, and status marks.
 use crate::answer;
-use log_batch::{AtomicGroupStatus, HeaderRead, LogBatch, LogItemBatch, StatusRead};
-use log_item::{ItemRead, LogItem};
+use log_batch::{AtomicGroupStatus, LogBatch, LogItemBatch};
+use log_item::LogItem;
 use pipe_log::{Location, LogQueue};
 
 // header NAME BYTES = OFFSET LENGTH TYPE
@@ -9,18 +9,13 @@ pub(crate) fn header(line: &[u8]) -> bool {
     let mut buf = [0u8; 32];
     let n = line::bytes(line, 2, &mut buf);
     match LogBatch::decode_header(line::front(&buf, n)) {
-        HeaderRead::Done { batch } => frame(line, batch),
-        HeaderRead::Refused(number) => answer::is_refused(line, 4, number),
-    }
-}
-
-fn frame(line: &[u8], batch: LogBatch) -> bool {
-    if answer::is_number(line, 4, batch.offset as u64) {
-        if answer::is_number(line, 5, batch.len as u64) {
-            return answer::is_number(line, 6, batch.compression as u64);
+        Ok(batch) => {
+            answer::is_number(line, 4, batch.offset as u64)
+                && answer::is_number(line, 5, batch.len as u64)
+                && answer::is_number(line, 6, u64::from(batch.compression))
         }
+        Err(reason) => answer::is_refused(line, 4, reason),
     }
-    false
 }
 
 // write NAME SIGNATURE CONTENT BYTES = WRITTEN; unchecked: with any key
@@ -31,37 +26,21 @@ pub(crate) fn written(line: &[u8]) -> bool {
     let n = line::bytes(line, 4, &mut buf);
     let bytes = line::front(&buf, n);
     let table = log_batch::read_items(bytes);
-    let why = table.refusal;
-    if why.number != refusal::NONE {
-        return false;
-    }
-    encoded(line, table, bytes, line::front(&content, m))
+    table.refusal.is_none() && encoded(line, table, bytes, line::front(&content, m))
 }
 
 fn encoded(line: &[u8], table: LogItemBatch, store: &[u8], content: &[u8]) -> bool {
-    if line::first_letter(line) == b'w' {
-        checked(line, table, store, content)
+    let mut out = [0u8; 1024];
+    let signature = line::short(line, 2);
+    let r = if line::first_letter(line) == b'w' {
+        LogBatch::encode(&table, store, content, signature, &mut out)
     } else {
-        unchecked(line, table, store, content)
+        LogBatch::encode_unchecked(&table, store, content, signature, &mut out)
+    };
+    match r {
+        Ok(length) => answer::is_bytes(line, 6, line::front(&out, length)),
+        Err(why) => answer::is_refused(line, 6, why.reason),
     }
-}
-
-fn checked(line: &[u8], table: LogItemBatch, store: &[u8], content: &[u8]) -> bool {
-    let mut out = [0u8; 1024];
-    let r = LogBatch::encode(table, store, content, line::short(line, 2), &mut out);
-    if r.number != refusal::NONE {
-        return answer::is_refused(line, 6, r.number);
-    }
-    answer::is_bytes(line, 6, line::front(&out, r.length))
-}
-
-fn unchecked(line: &[u8], table: LogItemBatch, store: &[u8], content: &[u8]) -> bool {
-    let mut out = [0u8; 1024];
-    let r = LogBatch::encode_unchecked(table, store, content, line::short(line, 2), &mut out);
-    if r.number != refusal::NONE {
-        return answer::is_refused(line, 6, r.number);
-    }
-    answer::is_bytes(line, 6, line::front(&out, r.length))
 }
 
 // view NAME LENGTH BLOCK = CONTENT
@@ -81,12 +60,11 @@ pub(crate) fn view(line: &[u8]) -> bool {
 }
 
 fn content<'a>(line: &[u8], row: Location, append: &'a [u8], rewrite: &'a [u8]) -> bool {
-    let mut number: u32 = 255;
-    let bytes = log_batch::entry_view(row, append, rewrite, &mut number);
-    if number == refusal::NONE {
-        answer::is_bytes(line, 5, bytes)
-    } else {
-        answer::is_refused(line, 5, number)
+    let mut refused = None;
+    let bytes = log_batch::entry_view(row, append, rewrite, &mut refused);
+    match refused {
+        None => answer::is_bytes(line, 5, bytes),
+        Some(reason) => answer::is_refused(line, 5, reason),
     }
 }
 
@@ -95,29 +73,16 @@ pub(crate) fn status(line: &[u8]) -> bool {
     let mut buf = [0u8; 64];
     let n = line::bytes(line, 2, &mut buf);
     let bytes = line::front(&buf, n);
-    match LogItem::decode(bytes, 0, 0, 0) {
-        ItemRead::Done {
-            item,
-            tails: _,
-            next: _,
-            total: _,
-            used: _,
-        } => marked(line, AtomicGroupStatus::parse(item, bytes)),
-        ItemRead::Refused(_) => false,
-    }
-}
-
-fn marked(line: &[u8], got: StatusRead) -> bool {
-    match got {
-        StatusRead::Mark { id, status } => {
-            if answer::is_number(line, 4, id) {
-                answer::is_number(line, 5, status_number(status))
-            } else {
-                false
-            }
+    let Ok(read) = LogItem::decode(bytes, 0, 0, 0) else {
+        return false;
+    };
+    match AtomicGroupStatus::parse(read.value.item, bytes) {
+        Ok(Some(mark)) => {
+            answer::is_number(line, 4, mark.id)
+                && answer::is_number(line, 5, status_number(mark.status))
         }
-        StatusRead::NoMark => answer::is_word(line, 4, b"none"),
-        StatusRead::Refused(_) => false,
+        Ok(None) => answer::is_word(line, 4, b"none"),
+        Err(_) => false,
     }
 }
 

@@ -1,7 +1,7 @@
 // Single items, bodies read into a table, and bodies written from one.
 use crate::{answer, items};
 use log_batch::LogItemBatch;
-use log_item::{EntryIndex, EntryIndexes, ItemRead, LogItem, TailRead};
+use log_item::{EntryIndex, EntryIndexes, LogItem};
 
 // one NAME TOTAL BYTES = NEXT TOTAL ITEM
 pub(crate) fn one(line: &[u8]) -> bool {
@@ -10,19 +10,14 @@ pub(crate) fn one(line: &[u8]) -> bool {
     let total = line::short(line, 2);
     let bytes = line::front(&buf, n);
     match LogItem::decode(bytes, 0, total, 0) {
-        ItemRead::Done {
-            item,
-            tails: start,
-            next,
-            total: after,
-            used: _,
-        } => {
-            let a = items::number(line, 5, next as u64);
-            let b = items::number(line, a, after as u64);
-            let c = items::head(line, b, item, bytes);
-            0 < tails(line, c, bytes, start, total, item.entries())
+        Ok(read) => {
+            let got = read.value;
+            let a = items::number(line, 5, read.next as u64);
+            let b = items::number(line, a, u64::from(got.total));
+            let c = items::head(line, b, got.item, bytes);
+            0 < tails(line, c, bytes, got.tails, total, got.item.entries())
         }
-        ItemRead::Refused(number) => answer::is_refused(line, 5, number),
+        Err(reason) => answer::is_refused(line, 5, reason),
     }
 }
 
@@ -38,28 +33,22 @@ fn tails(
     let mut at = start;
     let mut total = before;
     let mut index = entries.first_index;
-    let mut left = entries.count;
-    while 0 < left {
-        match EntryIndexes::decode_tail(bytes, at, total) {
-            TailRead::Done { total: after, next } => {
-                if after < total {
-                    return 0;
-                }
-                let row = EntryIndex {
-                    index,
-                    entry_offset: total,
-                    entry_len: after - total,
-                };
-                word = items::entry(line, word, row);
-                total = after;
-                at = next;
-            }
-            TailRead::Refused(_) => {
-                return 0;
-            }
-        }
+    for _ in 0..entries.count {
+        let Ok(tail) = EntryIndexes::decode_tail(bytes, at, total) else {
+            return 0;
+        };
+        let Some(entry_len) = tail.value.checked_sub(total) else {
+            return 0;
+        };
+        let row = EntryIndex {
+            index,
+            entry_offset: total,
+            entry_len,
+        };
+        word = items::entry(line, word, row);
+        total = tail.value;
+        at = tail.next;
         index = index.wrapping_add(1);
-        left -= 1;
     }
     word
 }
@@ -80,74 +69,28 @@ pub(crate) fn read(line: &[u8]) -> bool {
 }
 
 fn table_agrees(line: &[u8], table: LogItemBatch, bytes: &[u8]) -> bool {
-    let why = table.refusal;
-    if why.number != refusal::NONE {
-        return answer::is_refused(line, 5, why.number);
+    if let Some(why) = table.refusal {
+        return answer::is_refused(line, 5, why.reason);
     }
     let k = items::number(line, 5, table.item_count as u64);
-    let item_rows = table.items;
-    let entry_rows = table.entries;
-    let end = rows(line, k, item_rows, table.item_count, entry_rows, bytes);
-    if end == 0 {
-        return false;
-    }
-    line::word(line, end).len() == 0
+    let end = rows(line, k, table, bytes);
+    end != 0 && line::word(line, end).is_empty()
 }
 
 // All items, each with its entries.
-fn rows(
-    line: &[u8],
-    k: usize,
-    item_rows: [LogItem; 256],
-    count: usize,
-    entry_rows: [EntryIndex; 1024],
-    bytes: &[u8],
-) -> usize {
+fn rows(line: &[u8], k: usize, table: LogItemBatch, bytes: &[u8]) -> usize {
     let mut word = k;
-    let mut used = 0;
-    let mut i = 0;
-    while i < 256 {
-        if count <= i {
-            return word;
-        }
-        let item = item_rows[i];
-        word = items::head(line, word, item, bytes);
-        let entries = item.entries();
-        word = entry_words(line, word, entry_rows, used, entries.count);
-        used = plus(used, entries.count);
-        i += 1;
-    }
-    word
-}
-
-// The sum, or 1,024 where one of the two is above that.
-fn plus(a: usize, b: usize) -> usize {
-    if 1024 < a {
-        return 1024;
-    }
-    if 1024 < b {
-        return 1024;
-    }
-    a + b
-}
-
-fn entry_words(
-    line: &[u8],
-    k: usize,
-    entry_rows: [EntryIndex; 1024],
-    from: usize,
-    count: usize,
-) -> usize {
-    let mut word = k;
-    let mut i = from;
-    let mut left = count;
-    while 0 < left {
-        if 1024 <= i {
+    let mut used: usize = 0;
+    for item in &table.items[..table.item_count.min(256)] {
+        word = items::head(line, word, *item, bytes);
+        let end = used.saturating_add(item.entries().count);
+        if 1024 < end {
             return 0;
         }
-        word = items::entry(line, word, entry_rows[i]);
-        i += 1;
-        left -= 1;
+        for row in &table.entries[used..end] {
+            word = items::entry(line, word, *row);
+        }
+        used = end;
     }
     word
 }
@@ -159,13 +102,11 @@ pub(crate) fn written(line: &[u8]) -> bool {
     let n = line::bytes(line, 3, &mut buf);
     let bytes = line::front(&buf, n);
     let table = log_batch::read_items(bytes);
-    let why = table.refusal;
-    if why.number != refusal::NONE {
+    if table.refusal.is_some() {
         return false;
     }
-    let r = LogItemBatch::encode_unchecked(table, bytes, line::short(line, 2), &mut out);
-    if r.number != refusal::NONE {
-        return answer::is_refused(line, 5, r.number);
+    match table.encode_unchecked(bytes, line::short(line, 2), &mut out) {
+        Ok(length) => answer::is_bytes(line, 5, line::front(&out, length)),
+        Err(why) => answer::is_refused(line, 5, why.reason),
     }
-    answer::is_bytes(line, 5, line::front(&out, r.length))
 }

@@ -11,26 +11,15 @@ pub(crate) struct Counts {
     pub(crate) agree: u64,
 }
 
-// How a line came out.
-#[derive(Clone, Copy)]
-pub(crate) enum Outcome {
-    Agrees,
-    Differs,
-    NoCase,
-}
-
 // As many pieces as there may be.
 const PIECES: usize = 64;
 
 pub(crate) fn run(rt: &(impl Input + Print)) -> io::Result<()> {
     let mut counts = Counts { cases: 0, agree: 0 };
-    let mut k = 0;
-    while k < PIECES {
+    for _ in 0..PIECES {
         counts = piece(rt, counts)?;
-        k += 1;
     }
-    let agree = counts.agree;
-    let cases = counts.cases;
+    let Counts { cases, agree } = counts;
     println!(rt; "{agree} of {cases} answers agree")
 }
 
@@ -73,53 +62,47 @@ fn lines(rt: &impl Print, text: &[u8], before: Counts) -> io::Result<Counts> {
 }
 
 // The counts after a line; one that differs is named.
-fn counted(rt: &impl Print, counts: Counts, got: Outcome, line: &[u8]) -> io::Result<Counts> {
-    match got {
-        Outcome::Agrees => Ok(Counts {
-            cases: more(counts.cases),
-            agree: more(counts.agree),
+fn counted(
+    rt: &impl Print,
+    counts: Counts,
+    agrees: Option<bool>,
+    line: &[u8],
+) -> io::Result<Counts> {
+    match agrees {
+        Some(true) => Ok(Counts {
+            cases: counts.cases.saturating_add(1),
+            agree: counts.agree.saturating_add(1),
         }),
-        Outcome::Differs => {
+        Some(false) => {
             rt.write_all(b"differs: ")?;
             rt.write_all(line::word(line, 0))?;
             rt.write_all(b" ")?;
             rt.write_all(line::word(line, 1))?;
             rt.write_all(b"\n")?;
             Ok(Counts {
-                cases: more(counts.cases),
-                agree: counts.agree,
+                cases: counts.cases.saturating_add(1),
+                ..counts
             })
         }
-        Outcome::NoCase => Ok(counts),
+        None => Ok(counts),
     }
 }
 
-fn more(n: u64) -> u64 {
-    if n < 4_294_967_296 { n + 1 } else { n }
-}
-
-fn compared(line: &[u8]) -> Outcome {
+// Whether both answers to a line are the same, where it is a case.
+fn compared(line: &[u8]) -> Option<bool> {
     match line::first_letter(line) {
-        b'r' => told(number::read(line)),
-        b'n' => told(number::written(line)),
-        b'c' => told(number::checksum(line)),
-        b'h' => told(batches::header(line)),
-        b'o' => told(bodies::one(line)),
-        b'i' | b'f' => told(bodies::read(line)),
-        b'b' => told(bodies::written(line)),
-        b'w' | b'u' => told(batches::written(line)),
-        b'v' => told(batches::view(line)),
-        b's' => told(batches::status(line)),
-        b'm' => told(locations::moved(line)),
-        b't' => told(locations::taken(line)),
-        _ => Outcome::NoCase,
-    }
-}
-
-fn told(agrees: bool) -> Outcome {
-    if agrees {
-        Outcome::Agrees
-    } else {
-        Outcome::Differs
+        b'r' => Some(number::read(line)),
+        b'n' => Some(number::written(line)),
+        b'c' => Some(number::checksum(line)),
+        b'h' => Some(batches::header(line)),
+        b'o' => Some(bodies::one(line)),
+        b'i' | b'f' => Some(bodies::read(line)),
+        b'b' => Some(bodies::written(line)),
+        b'w' | b'u' => Some(batches::written(line)),
+        b'v' => Some(batches::view(line)),
+        b's' => Some(batches::status(line)),
+        b'm' => Some(locations::moved(line)),
+        b't' => Some(locations::taken(line)),
+        _ => None,
     }
 }

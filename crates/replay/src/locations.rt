@@ -1,27 +1,34 @@
 // Locations: rewriting, and the fetch before a gate. Tables are of at most 64 rows, six words each.
 use crate::items;
-use location_rules::{Gate, Table};
-use location_table::{fetch_entry_indexes_before, rewrite};
+use location_rules::Table;
+use location_table::{Rows, fetch_entry_indexes_before, rewrite};
 use pipe_log::{Location, LogQueue};
+
+const BLANK: Location = Location {
+    queue: LogQueue::Append,
+    seq: 0,
+    offset: 0,
+    len: 0,
+    entry_offset: 0,
+    entry_len: 0,
+};
 
 // move NAME FIRST COUNT ROWS WITH GATE INFIRST ROWS = COUNT ROWS APPEND REWRITE
 pub(crate) fn moved(line: &[u8]) -> bool {
     let len = line::short(line, 4) as usize;
     let rows = table_rows(line, 5, len);
     let k = past(5, len);
-    let incoming = line::short(line, on(k, 3)) as usize;
-    let in_rows = table_rows(line, on(k, 4), incoming);
+    let many = line::short(line, on(k, 3)) as usize;
+    let incoming = table_rows(line, on(k, 4), many);
     let first = line::number(line, on(k, 2));
     let gate = gate_at(line, k);
     let table = table_at(line);
-    let left = rewrite(rows, len, table, in_rows, incoming, first, gate);
-    let r = left.answer;
-    if r.number != refusal::NONE {
+    let left = rewrite(rows, table, incoming, first, gate);
+    let Ok(r) = left.answer else {
         return false;
-    }
-    let after = left.rows;
-    let start = on(past(on(k, 4), incoming), 1);
-    rows_agree(line, start, r.count as u64, after, len)
+    };
+    let start = on(past(on(k, 4), many), 1);
+    rows_agree(line, start, r.count as u64, left.rows)
 }
 
 // take NAME FIRST COUNT ROWS GATE = PLACE LENGTH
@@ -30,15 +37,14 @@ pub(crate) fn taken(line: &[u8]) -> bool {
     let k = past(5, len);
     let r = fetch_entry_indexes_before(
         table_rows(line, 5, len),
-        len,
         table_at(line),
         line::number(line, k),
     );
-    if r.number != refusal::NONE {
+    let Ok(run) = r else {
         return false;
-    }
-    let a = items::number(line, on(k, 2), r.place as u64);
-    0 < items::number(line, a, r.len as u64)
+    };
+    let a = items::number(line, on(k, 2), run.place as u64);
+    0 < items::number(line, a, run.len as u64)
 }
 
 fn table_at(line: &[u8]) -> Table {
@@ -48,57 +54,31 @@ fn table_at(line: &[u8]) -> Table {
     }
 }
 
-fn gate_at(line: &[u8], k: usize) -> Gate {
+fn gate_at(line: &[u8], k: usize) -> Option<u64> {
     if line::number(line, k) == 0 {
-        Gate::None
+        None
     } else {
-        Gate::Given(line::number(line, on(k, 1)))
+        Some(line::number(line, on(k, 1)))
     }
 }
 
 // The word d words on; 0 where that would be too many.
 fn on(k: usize, d: usize) -> usize {
-    if 1000 < k {
-        return 0;
-    }
-    if 1000 < d {
-        return 0;
-    }
-    k + d
+    if 1000 < k.max(d) { 0 } else { k + d }
 }
 
 // The word after so many rows.
 fn past(k: usize, rows: usize) -> usize {
-    if 64 < rows {
-        return 0;
-    }
-    on(k, 6 * rows)
+    if 64 < rows { 0 } else { on(k, 6 * rows) }
 }
 
 // The rows from a word on; those that are not there are blank.
-fn table_rows(line: &[u8], k: usize, count: usize) -> [Location; 64] {
-    let none = blank();
-    let mut rows = [none; 64];
-    let mut i = 0;
-    while i < 64 {
-        if count <= i {
-            return rows;
-        }
-        rows[i] = row(line, past(k, i));
-        i += 1;
+fn table_rows(line: &[u8], k: usize, count: usize) -> Rows {
+    let mut all = [BLANK; 64];
+    for i in 0..count.min(64) {
+        all[i] = row(line, past(k, i));
     }
-    rows
-}
-
-fn blank() -> Location {
-    Location {
-        queue: LogQueue::Append,
-        seq: 0,
-        offset: 0,
-        len: 0,
-        entry_offset: 0,
-        entry_len: 0,
-    }
+    Rows { all, len: count }
 }
 
 fn row(line: &[u8], k: usize) -> Location {
@@ -118,27 +98,23 @@ fn row(line: &[u8], k: usize) -> Location {
 }
 
 // The rewritten count, the rows, and how many of them are in each queue.
-fn rows_agree(line: &[u8], k: usize, count: u64, rows: [Location; 64], len: usize) -> bool {
+fn rows_agree(line: &[u8], k: usize, count: u64, rows: Rows) -> bool {
     let a = items::number(line, k, count);
-    let b = items::number(line, a, len as u64);
-    let c = rows_words(line, b, rows, len);
-    let append = in_append(rows, len);
-    if len < append {
+    let b = items::number(line, a, rows.len as u64);
+    let used = &rows.all[..rows.len.min(64)];
+    let c = rows_words(line, b, used);
+    let append = in_append(used);
+    let Some(rewrite) = rows.len.checked_sub(append) else {
         return false;
-    }
+    };
     let d = items::number(line, c, append as u64);
-    0 < items::number(line, d, (len - append) as u64)
+    0 < items::number(line, d, rewrite as u64)
 }
 
-fn rows_words(line: &[u8], k: usize, rows: [Location; 64], len: usize) -> usize {
+fn rows_words(line: &[u8], k: usize, rows: &[Location]) -> usize {
     let mut word = k;
-    let mut i = 0;
-    while i < 64 {
-        if len <= i {
-            return word;
-        }
-        word = row_words(line, word, rows[i]);
-        i += 1;
+    for &row in rows {
+        word = row_words(line, word, row);
     }
     word
 }
@@ -148,38 +124,18 @@ fn row_words(line: &[u8], k: usize, row: Location) -> usize {
     let b = items::number(line, a, row.seq);
     let c = items::number(line, b, row.offset);
     let d = items::number(line, c, row.len);
-    let e = items::number(line, d, row.entry_offset as u64);
-    items::number(line, e, row.entry_len as u64)
+    let e = items::number(line, d, u64::from(row.entry_offset));
+    items::number(line, e, u64::from(row.entry_len))
 }
 
 fn queue_number(row: Location) -> u64 {
-    let queue = row.queue;
-    match queue {
+    match row.queue {
         LogQueue::Append => 0,
         LogQueue::Rewrite => 1,
     }
 }
 
 // How many of the rows are in the append queue.
-fn in_append(rows: [Location; 64], len: usize) -> usize {
-    let mut n = 0;
-    let mut i = 0;
-    while i < 64 {
-        if len <= i {
-            return n;
-        }
-        n = one_more(n, rows[i]);
-        i += 1;
-    }
-    n
-}
-
-// One more where the row is in the append queue.
-fn one_more(n: usize, row: Location) -> usize {
-    if queue_number(row) == 0 {
-        if n < 64 {
-            return n + 1;
-        }
-    }
-    n
+fn in_append(rows: &[Location]) -> usize {
+    rows.iter().filter(|row| queue_number(**row) == 0).count()
 }

@@ -1,21 +1,18 @@
 // Numbers, read and written, and checksums.
 use crate::answer;
-use codec::NumberRead;
+use codec::NumberError;
 
 // read NAME BYTES = VALUE NEXT, or eof, or overflow
 pub(crate) fn read(line: &[u8]) -> bool {
     let mut buf = [0u8; 32];
     let n = line::bytes(line, 2, &mut buf);
     match codec::decode_var_u64(line::front(&buf, n), 0) {
-        NumberRead::Done { value, next } => {
-            if answer::is_number(line, 4, value) {
-                answer::is_number(line, 5, next as u64)
-            } else {
-                false
-            }
+        Ok(number) => {
+            answer::is_number(line, 4, number.value)
+                && answer::is_number(line, 5, number.next as u64)
         }
-        NumberRead::Eof => answer::is_word(line, 4, b"eof"),
-        NumberRead::Overflow => answer::is_word(line, 4, b"overflow"),
+        Err(NumberError::Eof) => answer::is_word(line, 4, b"eof"),
+        Err(NumberError::Overflow) => answer::is_word(line, 4, b"overflow"),
     }
 }
 
@@ -32,5 +29,5 @@ pub(crate) fn written(line: &[u8]) -> bool {
 pub(crate) fn checksum(line: &[u8]) -> bool {
     let mut buf = [0u8; 512];
     let n = line::bytes(line, 2, &mut buf);
-    answer::is_number(line, 4, crc::crc32(line::front(&buf, n)) as u64)
+    answer::is_number(line, 4, u64::from(crc::crc32(line::front(&buf, n))))
 }

@@ -1,6 +1,6 @@
 // Bodies and whole batches: the table that one gives, or its refusal; what a body holds, without a table; and plain form.
 use crate::{tables, text};
-use log_batch::{BodyCheck, LogBatch, LogItemBatch, PlainForm};
+use log_batch::{LogBatch, LogItemBatch};
 use std::io;
 
 // A body or a whole batch, read into a table.
@@ -37,40 +37,32 @@ pub(crate) fn go_over(rt: &impl Print, line: &[u8]) -> io::Result<()> {
     let mut buf = [0u8; 64];
     let n = line::bytes(line, 2, &mut buf);
     text::head(rt, line)?;
-    counts(rt, log_batch::check_items(line::front(&buf, n)))?;
-    text::end(rt)
-}
-
-fn counts(rt: &impl Print, got: BodyCheck) -> io::Result<()> {
-    match got {
-        BodyCheck::Accepted {
-            items,
-            entries,
-            total,
-            next,
-        } => {
+    match log_batch::check_items(line::front(&buf, n)) {
+        Ok(check) => {
             text::word(rt, b"counts")?;
-            text::number(rt, items as u64)?;
-            text::number(rt, entries as u64)?;
-            text::number(rt, total as u64)?;
-            text::number(rt, next as u64)
+            text::numbers(
+                rt,
+                &[
+                    check.items as u64,
+                    check.entries as u64,
+                    u64::from(check.total),
+                    check.next as u64,
+                ],
+            )?;
         }
-        BodyCheck::Refused(why) => text::refusal(rt, why),
+        Err(why) => text::refusal(rt, why)?,
     }
+    text::end(rt)
 }
 
 pub(crate) fn plain(rt: &impl Print, line: &[u8]) -> io::Result<()> {
     let mut buf = [0u8; 64];
     let n = line::bytes(line, 2, &mut buf);
     text::head(rt, line)?;
-    form(rt, log_batch::plain(line::front(&buf, n), 0))?;
-    text::end(rt)
-}
-
-fn form(rt: &impl Print, got: PlainForm) -> io::Result<()> {
-    match got {
-        PlainForm::Yes => text::word(rt, b"yes"),
-        PlainForm::No => text::word(rt, b"no"),
-        PlainForm::Refused(why) => text::refusal(rt, why),
+    match log_batch::plain(line::front(&buf, n), 0) {
+        Ok(true) => text::word(rt, b"yes")?,
+        Ok(false) => text::word(rt, b"no")?,
+        Err(why) => text::refusal(rt, why)?,
     }
+    text::end(rt)
 }

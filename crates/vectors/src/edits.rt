@@ -12,7 +12,7 @@
 //     value I N      the length of that content
 use log_batch::LogItemBatch;
 use log_item::{EntryIndex, EntryIndexes, KeyValue, LogItem, LogItemContent, Op, Span};
-use refusal::Refusal;
+use refusal::{Reason, Refusal};
 
 // Up to three edits, from word 7 on.
 pub(crate) fn edited(words: &[u8], table: LogItemBatch) -> LogItemBatch {
@@ -61,11 +61,9 @@ fn rows(table: LogItemBatch, n: usize) -> LogItemBatch {
 fn length(table: LogItemBatch, k: usize, n: u32) -> LogItemBatch {
     let mut t = table;
     if k < 1024 {
-        let row = t.entries[k];
         t.entries[k] = EntryIndex {
-            index: row.index,
-            entry_offset: row.entry_offset,
             entry_len: n,
+            ..t.entries[k]
         };
     }
     t
@@ -77,21 +75,19 @@ fn unread(table: LogItemBatch, k: usize, n: u32) -> LogItemBatch {
         at: n as usize,
         len: n as usize,
     };
-    let why = Refusal {
-        number: n,
-        item: n as usize,
-    };
     t.total = n;
     t.next = n as usize;
     t.body = place;
     t.block = place;
-    t.refusal = why;
+    t.refusal = Some(Refusal {
+        reason: Reason::NumberBroken,
+        item: n as usize,
+    });
     if k < 1024 {
-        let row = t.entries[k];
         t.entries[k] = EntryIndex {
-            index: n as u64,
+            index: u64::from(n),
             entry_offset: n,
-            entry_len: row.entry_len,
+            ..t.entries[k]
         };
     }
     t
@@ -100,62 +96,52 @@ fn unread(table: LogItemBatch, k: usize, n: u32) -> LogItemBatch {
 fn item(table: LogItemBatch, what: u8, i: usize, n: u64) -> LogItemBatch {
     let mut t = table;
     if i < 256 {
-        let row = t.items[i];
-        t.items[i] = item_with(row, what, n);
+        let item = t.items[i];
+        t.items[i] = LogItem {
+            content: content_with(item.content, what, n),
+            ..item
+        };
     }
     t
 }
 
-fn item_with(item: LogItem, what: u8, n: u64) -> LogItem {
-    let content = item.content;
-    LogItem {
-        raft_group_id: item.raft_group_id,
-        content: content_with(content, what, n),
-    }
-}
-
 fn content_with(content: LogItemContent, what: u8, n: u64) -> LogItemContent {
     match content {
-        LogItemContent::EntryIndexes(entries) => LogItemContent::EntryIndexes(entries_with(
-            entries, what, n,
-        )),
+        LogItemContent::EntryIndexes(entries) => {
+            LogItemContent::EntryIndexes(entries_with(entries, what, n))
+        }
         LogItemContent::Command(command) => LogItemContent::Command(command),
-        LogItemContent::Kv(key_value) => LogItemContent::Kv(key_with(key_value, what, n as usize)),
+        LogItemContent::Kv(kv) => LogItemContent::Kv(key_with(kv, what, n as usize)),
     }
 }
 
 fn entries_with(entries: EntryIndexes, what: u8, n: u64) -> EntryIndexes {
     match what {
         b'f' => EntryIndexes {
-            count: entries.count,
             first_index: n,
+            ..entries
         },
         b'c' => EntryIndexes {
             count: n as usize,
-            first_index: entries.first_index,
+            ..entries
         },
         _ => entries,
     }
 }
 
-fn key_with(key_value: KeyValue, what: u8, n: usize) -> KeyValue {
-    let key = key_value.key;
-    let op = key_value.op;
+fn key_with(kv: KeyValue, what: u8, n: usize) -> KeyValue {
     match what {
         b'p' => KeyValue {
-            key: Span {
-                at: n,
-                len: key.len,
-            },
-            op,
+            key: Span { at: n, ..kv.key },
+            ..kv
         },
         b'k' => KeyValue {
-            key: Span { at: key.at, len: n },
-            op,
+            key: Span { len: n, ..kv.key },
+            ..kv
         },
         _ => KeyValue {
-            key,
-            op: op_with(op, what, n),
+            op: op_with(kv.op, what, n),
+            ..kv
         },
     }
 }
@@ -171,14 +157,8 @@ fn op_with(op: Op, what: u8, n: usize) -> Op {
 
 fn span_with(span: Span, what: u8, n: usize) -> Span {
     match what {
-        b's' => Span {
-            at: n,
-            len: span.len,
-        },
-        b'v' => Span {
-            at: span.at,
-            len: n,
-        },
+        b's' => Span { at: n, ..span },
+        b'v' => Span { len: n, ..span },
         _ => span,
     }
 }

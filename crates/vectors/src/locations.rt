@@ -1,49 +1,46 @@
 // Rows of locations, as a word spells them and as a line shows them. A row is QUEUE,FILE,PLACE,BLOCKLENGTH,OFFSET,LENGTH: its queue is A
 // or R, the rest is in hex, and what is left out at the end is 0. Rows are joined by semicolons, and `-` is none.
 use crate::text;
+use location_table::Rows;
 use pipe_log::{Location, LogQueue};
 use std::io;
 
-// At most 64 rows, and how many there are.
-#[derive(Clone, Copy)]
-pub(crate) struct Run {
-    pub(crate) rows: [Location; 64],
-    pub(crate) len: usize,
-}
-
-pub(crate) fn rows(word: &[u8]) -> Run {
-    let mut rows = [row(b"A"); 64];
-    let mut len = 0;
+// At most 64 rows.
+pub(crate) fn rows(word: &[u8]) -> Rows {
+    let mut rows = Rows {
+        all: [row(b"A"); 64],
+        len: 0,
+    };
     let mut at = 0;
     if line::first_letter(word) == b'-' {
-        return Run { rows, len };
+        return rows;
     }
-    while len < 64 {
+    for i in 0..64 {
         let end = line::find(word, at, b';');
-        rows[len] = row(line::part(word, at, end));
-        len += 1;
+        rows.all[i] = row(line::part(word, at, end));
+        rows.len = i + 1;
         if word.len() <= end {
-            return Run { rows, len };
+            return rows;
         }
         at = end + 1;
     }
-    Run { rows, len }
+    rows
 }
 
 fn row(word: &[u8]) -> Location {
-    let n = numbers(word);
+    let [_, seq, offset, len, entry_offset, entry_len] = numbers(word);
     Location {
-        queue: queue(line::first_letter(word)),
-        seq: n[1],
-        offset: n[2],
-        len: n[3],
-        entry_offset: line::low(n[4]),
-        entry_len: line::low(n[5]),
+        queue: queue(line::first_letter(word) == b'R'),
+        seq,
+        offset,
+        len,
+        entry_offset: line::low(entry_offset),
+        entry_len: line::low(entry_len),
     }
 }
 
-fn queue(letter: u8) -> LogQueue {
-    if letter == b'R' {
+pub(crate) fn queue(is_rewrite: bool) -> LogQueue {
+    if is_rewrite {
         LogQueue::Rewrite
     } else {
         LogQueue::Append
@@ -54,11 +51,9 @@ fn queue(letter: u8) -> LogQueue {
 fn numbers(word: &[u8]) -> [u64; 6] {
     let mut out = [0u64; 6];
     let mut at = 0;
-    let mut k = 0;
-    while k < 6 {
+    for k in 0..6 {
         let end = line::find(word, at, b',');
         out[k] = line::value(line::part(word, at, end));
-        k += 1;
         if word.len() <= end {
             return out;
         }
@@ -67,33 +62,27 @@ fn numbers(word: &[u8]) -> [u64; 6] {
     out
 }
 
-// The words of the first len rows.
-pub(crate) fn show(rt: &impl Print, rows: [Location; 64], len: usize) -> io::Result<()> {
-    let mut i = 0;
-    while i < 64 {
-        if len <= i {
-            return Ok(());
-        }
-        words(rt, rows[i])?;
-        i += 1;
+// The words of the rows.
+pub(crate) fn show(rt: &impl Print, rows: &[Location]) -> io::Result<()> {
+    for &row in rows {
+        text::word(rt, b":")?;
+        text::word(
+            rt,
+            match row.queue {
+                LogQueue::Append => b"A",
+                LogQueue::Rewrite => b"R",
+            },
+        )?;
+        text::numbers(
+            rt,
+            &[
+                row.seq,
+                row.offset,
+                row.len,
+                u64::from(row.entry_offset),
+                u64::from(row.entry_len),
+            ],
+        )?;
     }
     Ok(())
-}
-
-fn words(rt: &impl Print, row: Location) -> io::Result<()> {
-    let queue = row.queue;
-    text::word(rt, b":")?;
-    letter(rt, queue)?;
-    text::number(rt, row.seq)?;
-    text::number(rt, row.offset)?;
-    text::number(rt, row.len)?;
-    text::number(rt, row.entry_offset as u64)?;
-    text::number(rt, row.entry_len as u64)
-}
-
-fn letter(rt: &impl Print, queue: LogQueue) -> io::Result<()> {
-    match queue {
-        LogQueue::Append => text::word(rt, b"A"),
-        LogQueue::Rewrite => text::word(rt, b"R"),
-    }
 }

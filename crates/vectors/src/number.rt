@@ -1,6 +1,6 @@
 // Numbers, written, read back, and read in every padded form; bytes read as a number; and words.
 use crate::text;
-use codec::{NumberRead, U32Read, U64Read, Wrote};
+use codec::{NumberError, Piece};
 use std::io;
 
 // The shortest form, read back, then each longer form of the same number: by the functions for a number by itself.
@@ -10,8 +10,7 @@ pub(crate) fn number(rt: &impl Print, line: &[u8]) -> io::Result<()> {
     let len = codec::var_u64_len(n);
     codec::encode_var_u64_unrolled(n, &mut buf, 0);
     text::start(rt, b"number")?;
-    text::number(rt, n)?;
-    text::number(rt, len as u64)?;
+    text::numbers(rt, &[n, len as u64])?;
     text::hex(rt, line::front(&buf, len))?;
     text::end(rt)?;
     alone(rt, line::front(&buf, len))?;
@@ -21,15 +20,10 @@ pub(crate) fn number(rt: &impl Print, line: &[u8]) -> io::Result<()> {
 // Reads the number in the first len bytes with one byte more at a time, up to ten.
 fn padded(rt: &impl Print, bytes: [u8; 10], len: usize) -> io::Result<()> {
     let mut buf = bytes;
-    let mut n = len;
-    while n < 10 {
-        if n == 0 {
-            return Ok(());
-        }
+    for n in len.max(1)..10 {
         buf[n - 1] = 128 + buf[n - 1] % 128;
         buf[n] = 0;
-        n += 1;
-        alone(rt, line::front(&buf, n))?;
+        alone(rt, line::front(&buf, n + 1))?;
     }
     Ok(())
 }
@@ -45,16 +39,13 @@ fn alone(rt: &impl Print, bytes: &[u8]) -> io::Result<()> {
     read(rt, bytes, codec::decode_var_u64_unrolled(bytes, 0))
 }
 
-fn read(rt: &impl Print, bytes: &[u8], got: NumberRead) -> io::Result<()> {
+fn read(rt: &impl Print, bytes: &[u8], got: Result<Piece<u64>, NumberError>) -> io::Result<()> {
     text::start(rt, b"read")?;
     text::hex(rt, bytes)?;
     match got {
-        NumberRead::Done { value, next } => {
-            text::number(rt, value)?;
-            text::number(rt, next as u64)?;
-        }
-        NumberRead::Eof => text::word(rt, b"eof")?,
-        NumberRead::Overflow => text::word(rt, b"overflow")?,
+        Ok(number) => text::numbers(rt, &[number.value, number.next as u64])?,
+        Err(NumberError::Eof) => text::word(rt, b"eof")?,
+        Err(NumberError::Overflow) => text::word(rt, b"overflow")?,
     }
     text::end(rt)
 }
@@ -65,18 +56,15 @@ pub(crate) fn big(rt: &impl Print, line: &[u8]) -> io::Result<()> {
     codec::encode_u64(line::number(line, 1), &mut buf, 0);
     text::start(rt, b"u64")?;
     text::hex(rt, &buf)?;
-    read64(rt, &buf, 0)?;
-    read64(rt, line::front(&buf, 7), 0)?;
+    word(rt, codec::decode_u64(&buf, 0))?;
+    word(rt, codec::decode_u64(&buf[..7], 0))?;
     text::end(rt)
 }
 
-fn read64(rt: &impl Print, bytes: &[u8], at: usize) -> io::Result<()> {
-    match codec::decode_u64(bytes, at) {
-        U64Read::Done { value, next } => {
-            text::number(rt, value)?;
-            text::number(rt, next as u64)
-        }
-        U64Read::Eof => text::word(rt, b"eof"),
+fn word(rt: &impl Print, got: Option<Piece<u64>>) -> io::Result<()> {
+    match got {
+        Some(word) => text::numbers(rt, &[word.value, word.next as u64]),
+        None => text::word(rt, b"eof"),
     }
 }
 
@@ -87,20 +75,13 @@ pub(crate) fn place(rt: &impl Print, line: &[u8]) -> io::Result<()> {
     let n = line::bytes(line, 3, &mut buf);
     text::start(rt, b"u64 at")?;
     text::number(rt, at as u64)?;
-    read64(rt, line::front(&buf, n), at)?;
-    written(
-        rt,
-        codec::encode_u64(line::number(line, 2), &mut buf[..n], at),
-    )?;
+    word(rt, codec::decode_u64(line::front(&buf, n), at))?;
+    match codec::encode_u64(line::number(line, 2), &mut buf[..n], at) {
+        Some(next) => text::number(rt, next as u64)?,
+        None => text::word(rt, b"no-room")?,
+    }
     text::bytes(rt, line::front(&buf, n))?;
     text::end(rt)
-}
-
-fn written(rt: &impl Print, got: Wrote) -> io::Result<()> {
-    match got {
-        Wrote::Next(next) => text::number(rt, next as u64),
-        Wrote::NoRoom => text::word(rt, b"no-room"),
-    }
 }
 
 // Four bytes, the word read back from them, and what three of them give.
@@ -109,17 +90,14 @@ pub(crate) fn little(rt: &impl Print, line: &[u8]) -> io::Result<()> {
     codec::encode_u32_le(line::short(line, 1), &mut buf, 0);
     text::start(rt, b"u32")?;
     text::hex(rt, &buf)?;
-    read32(rt, &buf)?;
-    read32(rt, line::front(&buf, 3))?;
+    short(rt, codec::decode_u32_le(&buf, 0))?;
+    short(rt, codec::decode_u32_le(&buf[..3], 0))?;
     text::end(rt)
 }
 
-fn read32(rt: &impl Print, bytes: &[u8]) -> io::Result<()> {
-    match codec::decode_u32_le(bytes, 0) {
-        U32Read::Done { value, next } => {
-            text::number(rt, value as u64)?;
-            text::number(rt, next as u64)
-        }
-        U32Read::Eof => text::word(rt, b"eof"),
+fn short(rt: &impl Print, got: Option<Piece<u32>>) -> io::Result<()> {
+    match got {
+        Some(word) => text::numbers(rt, &[u64::from(word.value), word.next as u64]),
+        None => text::word(rt, b"eof"),
     }
 }

@@ -1,15 +1,14 @@
 // Tables of locations, rewritten and fetched from. A line of answer is a rewrite's number, how many rows it replaced, the count, and the
 // rows afterwards; or a fetch's number, place and length.
 use crate::{locations, text};
-use location_rules::{Gate, Table};
-use pipe_log::Location;
+use location_rules::Table;
+use location_table::Rows;
 use std::io;
 
 // A table and its rows.
 #[derive(Clone, Copy)]
 struct Memtable {
-    rows: [Location; 64],
-    len: usize,
+    rows: Rows,
     table: Table,
 }
 
@@ -36,11 +35,8 @@ pub(crate) fn case(rt: &impl Print, line: &[u8]) -> io::Result<()> {
 }
 
 fn table(words: &[u8]) -> Memtable {
-    let rows = locations::rows(line::word(words, 2));
-    let all = rows.rows;
     Memtable {
-        rows: all,
-        len: rows.len,
+        rows: locations::rows(line::word(words, 2)),
         table: Table {
             first: line::number(words, 0),
             count: line::number(words, 1) as usize,
@@ -59,49 +55,46 @@ fn rewrite(rt: &impl Print, line: &[u8], call: &[u8], from: Memtable) -> io::Res
     let incoming = locations::rows(line::word(call, 3));
     let first = line::number(call, 2);
     let gate = gate(line::word(call, 1));
-    let table = from.table;
-    let rows = from.rows;
-    let coming = incoming.rows;
-    let len = from.len;
-    let left = location_table::rewrite(rows, len, table, coming, incoming.len, first, gate);
-    let r = left.answer;
-    let after = left.rows;
+    let Memtable { rows, table } = from;
+    let left = location_table::rewrite(rows, table, incoming, first, gate);
     start(rt, line, call)?;
-    text::number(rt, r.number as u64)?;
-    text::number(rt, r.replaced as u64)?;
-    text::number(rt, r.count as u64)?;
-    locations::show(rt, after, len)?;
+    let count = match left.answer {
+        Ok(r) => {
+            text::numbers(rt, &[0, r.replaced as u64, r.count as u64])?;
+            r.count
+        }
+        Err(reason) => {
+            text::numbers(rt, &[u64::from(reason.number()), 0, table.count as u64])?;
+            table.count
+        }
+    };
+    let rows = left.rows;
+    locations::show(rt, &rows.all[..rows.len.min(64)])?;
     text::end(rt)?;
     Ok(Memtable {
-        rows: after,
-        len,
+        rows,
         table: Table {
             first: table.first,
-            count: r.count,
+            count,
         },
     })
 }
 
-fn gate(word: &[u8]) -> Gate {
+fn gate(word: &[u8]) -> Option<u64> {
     if line::first_letter(word) == b'-' {
-        Gate::None
+        None
     } else {
-        Gate::Given(line::value(word))
+        Some(line::value(word))
     }
 }
 
 fn fetch(rt: &impl Print, line: &[u8], call: &[u8], from: Memtable) -> io::Result<()> {
-    let table = from.table;
-    let rows = from.rows;
-    let r = location_table::fetch_entry_indexes_before(
-        rows,
-        from.len,
-        table,
-        line::number(call, 1),
-    );
+    let gate = line::number(call, 1);
+    let r = location_table::fetch_entry_indexes_before(from.rows, from.table, gate);
     start(rt, line, call)?;
-    text::number(rt, r.number as u64)?;
-    text::number(rt, r.place as u64)?;
-    text::number(rt, r.len as u64)?;
+    match r {
+        Ok(run) => text::numbers(rt, &[0, run.place as u64, run.len as u64])?,
+        Err(reason) => text::numbers(rt, &[u64::from(reason.number()), 0, 0])?,
+    }
     text::end(rt)
 }

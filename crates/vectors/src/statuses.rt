@@ -1,8 +1,8 @@
 // The status that an item marks.
 use crate::text;
-use log_batch::{AtomicGroupStatus, StatusRead};
-use log_item::{ItemRead, LogItem};
-use refusal::Refusal;
+use log_batch::{AtomicGroupStatus, Mark};
+use log_item::LogItem;
+use refusal::Reason;
 use std::io;
 
 pub(crate) fn case(rt: &impl Print, line: &[u8]) -> io::Result<()> {
@@ -10,39 +10,26 @@ pub(crate) fn case(rt: &impl Print, line: &[u8]) -> io::Result<()> {
     let n = line::bytes(line, 3, &mut buf);
     let lent = line::short(line, 2) as usize;
     text::head(rt, line)?;
-    answer(rt, mark(line::front(&buf, n), lent))?;
+    match mark(line::front(&buf, n), lent) {
+        Ok(Some(mark)) => {
+            text::number(rt, mark.id)?;
+            text::word(
+                rt,
+                match mark.status {
+                    AtomicGroupStatus::Begin => b"begin",
+                    AtomicGroupStatus::Middle => b"middle",
+                    AtomicGroupStatus::End => b"end",
+                },
+            )?;
+        }
+        Ok(None) => text::word(rt, b"no-mark")?,
+        Err(reason) => text::numbers(rt, &[u64::from(reason.number()), 0])?,
+    }
     text::end(rt)
 }
 
 // What the item marks, with its first bytes lent.
-fn mark(bytes: &[u8], lent: usize) -> StatusRead {
-    match LogItem::decode(bytes, 0, 0, 0) {
-        ItemRead::Done {
-            item,
-            tails: _,
-            next: _,
-            total: _,
-            used: _,
-        } => AtomicGroupStatus::parse(item, line::front(bytes, lent)),
-        ItemRead::Refused(number) => StatusRead::Refused(Refusal { number, item: 0 }),
-    }
-}
-
-fn answer(rt: &impl Print, got: StatusRead) -> io::Result<()> {
-    match got {
-        StatusRead::Mark { id, status } => {
-            text::number(rt, id)?;
-            status_word(rt, status)
-        }
-        StatusRead::NoMark => text::word(rt, b"no-mark"),
-        StatusRead::Refused(why) => text::refusal(rt, why),
-    }
-}
-
-fn status_word(rt: &impl Print, status: AtomicGroupStatus) -> io::Result<()> {
-    match status {
-        AtomicGroupStatus::Begin => text::word(rt, b"begin"),
-        AtomicGroupStatus::Middle => text::word(rt, b"middle"),
-        AtomicGroupStatus::End => text::word(rt, b"end"),
-    }
+fn mark(bytes: &[u8], lent: usize) -> Result<Option<Mark>, Reason> {
+    let read = LogItem::decode(bytes, 0, 0, 0)?;
+    AtomicGroupStatus::parse(read.value.item, line::front(bytes, lent))
 }

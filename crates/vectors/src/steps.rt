@@ -1,7 +1,7 @@
 // Bodies stepped through, an item at a time and its rows one at a time. The line has what each call answers: an item, its rows, and `.`
 // where they end; the end; or the refusal.
 use crate::{tables, text};
-use item_reader::{Cursor, EntryRows, Next, RowRead};
+use item_reader::{Cursor, EntryRows, Found};
 use refusal::Refusal;
 use std::io;
 
@@ -25,26 +25,27 @@ pub(crate) fn case(rt: &impl Print, line: &[u8]) -> io::Result<()> {
 // What so many steps answer, and the cursor after them.
 fn steps(rt: &impl Print, body: &[u8], first: Cursor, count: usize) -> io::Result<Cursor> {
     let mut cursor = first;
-    let mut k = 0;
-    while k < count {
+    for _ in 0..count {
         let s = cursor.step(body);
-        let got = s.answer;
-        answer(rt, body, got)?;
+        answer(rt, body, s.answer)?;
         cursor = s.cursor;
-        k += 1;
     }
     Ok(cursor)
 }
 
-fn answer(rt: &impl Print, body: &[u8], got: Next) -> io::Result<()> {
+fn answer(
+    rt: &impl Print,
+    body: &[u8],
+    got: Result<Option<Found>, Refusal>,
+) -> io::Result<()> {
     match got {
-        Next::Item { item, rows } => {
+        Ok(Some(found)) => {
+            let item = found.item;
             tables::item(rt, item)?;
-            let entries = item.entries();
-            entry_rows(rt, body, rows, entries.count)
+            entry_rows(rt, body, found.rows, item.entries().count)
         }
-        Next::End => text::word(rt, b"end"),
-        Next::Refused(why) => {
+        Ok(None) => text::word(rt, b"end"),
+        Err(why) => {
             text::word(rt, b"refused")?;
             text::refusal(rt, why)
         }
@@ -54,10 +55,8 @@ fn answer(rt: &impl Print, body: &[u8], got: Next) -> io::Result<()> {
 // The rows of an item, and the end after them.
 fn entry_rows(rt: &impl Print, body: &[u8], rows: EntryRows, count: usize) -> io::Result<()> {
     let mut rest = rows;
-    let mut i = 0;
-    while i < count {
+    for _ in 0..count {
         rest = entry(rt, body, rest)?;
-        i += 1;
     }
     entry(rt, body, rest)?;
     Ok(())
@@ -66,17 +65,17 @@ fn entry_rows(rt: &impl Print, body: &[u8], rows: EntryRows, count: usize) -> io
 // The next row, and the rows after it.
 fn entry(rt: &impl Print, body: &[u8], rows: EntryRows) -> io::Result<EntryRows> {
     match item_reader::next_row(body, rows) {
-        RowRead::Row { row, rest } => {
-            tables::entry(rt, row)?;
-            Ok(rest)
+        Ok(Some(next)) => {
+            tables::entry(rt, next.row)?;
+            Ok(next.rest)
         }
-        RowRead::End => {
+        Ok(None) => {
             text::word(rt, b".")?;
             Ok(rows)
         }
-        RowRead::Refused(number) => {
+        Err(reason) => {
             text::word(rt, b"refused")?;
-            text::number(rt, number as u64)?;
+            text::number(rt, u64::from(reason.number()))?;
             Ok(rows)
         }
     }
@@ -92,27 +91,19 @@ pub(crate) fn jump(rt: &impl Print, line: &[u8]) -> io::Result<()> {
         used: line::number(line, 4) as usize,
         item: line::number(line, 5) as usize,
         count: line::number(line, 6) as usize,
-        refusal: Refusal {
-            number: refusal::NONE,
-            item: 0,
-        },
+        refusal: None,
     };
     text::head(rt, line)?;
-    let after = steps(
-        rt,
-        line::front(&buf, n),
-        from,
-        line::number(line, 7) as usize,
-    )?;
-    place(rt, after)?;
+    let calls = line::number(line, 7) as usize;
+    let after = steps(rt, line::front(&buf, n), from, calls)?;
+    let place = [
+        after.at as u64,
+        u64::from(after.total),
+        after.used as u64,
+        after.item as u64,
+    ];
+    text::numbers(rt, &place)?;
     text::end(rt)
-}
-
-fn place(rt: &impl Print, cursor: Cursor) -> io::Result<()> {
-    text::number(rt, cursor.at as u64)?;
-    text::number(rt, cursor.total as u64)?;
-    text::number(rt, cursor.used as u64)?;
-    text::number(rt, cursor.item as u64)
 }
 
 // The first item of a body, and its rows read in another.
@@ -122,12 +113,8 @@ pub(crate) fn tail(rt: &impl Print, line: &[u8]) -> io::Result<()> {
     let n = line::bytes(line, 2, &mut buf);
     let m = line::bytes(line, 3, &mut other);
     text::head(rt, line)?;
-    answer(rt, line::front(&other, m), first_of(line::front(&buf, n)))?;
+    let body = line::front(&buf, n);
+    let first = Cursor::start(body, 0).step(body);
+    answer(rt, line::front(&other, m), first.answer)?;
     text::end(rt)
-}
-
-fn first_of(body: &[u8]) -> Next {
-    let cursor = Cursor::start(body, 0);
-    let s = cursor.step(body);
-    s.answer
 }

@@ -1,5 +1,5 @@
 // Words of a line: text, numbers and bytes in hex, each after a space.
-use refusal::Refusal;
+use refusal::{Reason, Refusal};
 use std::io;
 
 pub(crate) fn start(rt: &impl Print, word: &[u8]) -> io::Result<()> {
@@ -21,6 +21,13 @@ pub(crate) fn number(rt: &impl Print, n: u64) -> io::Result<()> {
     print!(rt; " {n}")
 }
 
+pub(crate) fn numbers(rt: &impl Print, all: &[u64]) -> io::Result<()> {
+    for &n in all {
+        number(rt, n)?;
+    }
+    Ok(())
+}
+
 // Eight digits of a checksum.
 pub(crate) fn checksum(rt: &impl Print, sum: u32) -> io::Result<()> {
     print!(rt; " {sum:08x}")
@@ -28,57 +35,29 @@ pub(crate) fn checksum(rt: &impl Print, sum: u32) -> io::Result<()> {
 
 pub(crate) fn hex(rt: &impl Print, bytes: &[u8]) -> io::Result<()> {
     rt.write_all(b" ")?;
-    let mut i = 0;
-    while i < bytes.len() {
-        if bytes.len() - i < 4 {
-            one_byte(rt, bytes[i])?;
-            i += 1;
-        } else {
-            four_bytes(rt, bytes[i], bytes[i + 1], bytes[i + 2], bytes[i + 3])?;
-            i += 4;
-        }
+    for b in bytes {
+        print!(rt; "{b:02x}")?;
     }
     Ok(())
 }
 
 // The same, with `-` for none.
 pub(crate) fn bytes(rt: &impl Print, bytes: &[u8]) -> io::Result<()> {
-    if bytes.len() == 0 {
+    if bytes.is_empty() {
         word(rt, b"-")
     } else {
         hex(rt, bytes)
     }
 }
 
-fn one_byte(rt: &impl Print, b: u8) -> io::Result<()> {
-    let digits = [digit(b / 16), digit(b % 16)];
-    rt.write_all(&digits)
-}
-
-// The same of four at once, for the steps that writing takes.
-fn four_bytes(rt: &impl Print, a: u8, b: u8, c: u8, d: u8) -> io::Result<()> {
-    let digits = [
-        digit(a / 16),
-        digit(a % 16),
-        digit(b / 16),
-        digit(b % 16),
-        digit(c / 16),
-        digit(c % 16),
-        digit(d / 16),
-        digit(d % 16),
-    ];
-    rt.write_all(&digits)
-}
-
-// The digit of a value below 16.
-fn digit(n: u8) -> u8 {
-    if n < 10 { b'0' + n } else { b'a' + n % 16 - 10 }
+// Why something was refused, by its number; 0 where nothing was.
+pub(crate) fn reason(rt: &impl Print, why: Option<Reason>) -> io::Result<()> {
+    number(rt, why.map_or(0, |reason| u64::from(reason.number())))
 }
 
 // The number and the item.
 pub(crate) fn refusal(rt: &impl Print, why: Refusal) -> io::Result<()> {
-    number(rt, why.number as u64)?;
-    number(rt, why.item as u64)
+    numbers(rt, &[u64::from(why.reason.number()), why.item as u64])
 }
 
 pub(crate) fn end(rt: &impl Print) -> io::Result<()> {

@@ -1,6 +1,6 @@
 // The bytes of an entry, as a part of the block that its row's queue names: the refusal's number or 0, the part's length, and the part.
-use crate::text;
-use pipe_log::{Location, LogQueue};
+use crate::{locations, text};
+use pipe_log::Location;
 use std::io;
 
 pub(crate) fn case(rt: &impl Print, line: &[u8]) -> io::Result<()> {
@@ -19,13 +19,8 @@ pub(crate) fn case(rt: &impl Print, line: &[u8]) -> io::Result<()> {
 }
 
 fn row(line: &[u8]) -> Location {
-    let queue = if line::number(line, 2) == 0 {
-        LogQueue::Append
-    } else {
-        LogQueue::Rewrite
-    };
     Location {
-        queue,
+        queue: locations::queue(line::number(line, 2) != 0),
         seq: 1,
         offset: 16,
         len: line::number(line, 3),
@@ -35,12 +30,13 @@ fn row(line: &[u8]) -> Location {
 }
 
 fn view<'a>(rt: &impl Print, row: Location, append: &'a [u8], rewrite: &'a [u8]) -> io::Result<()> {
-    let mut number: u32 = 255;
-    let bytes = log_batch::entry_view(row, append, rewrite, &mut number);
-    text::number(rt, number as u64)?;
+    let mut refused = None;
+    let bytes = log_batch::entry_view(row, append, rewrite, &mut refused);
+    text::reason(rt, refused)?;
     text::number(rt, bytes.len() as u64)?;
-    if 0 < bytes.len() {
-        text::hex(rt, bytes)?;
+    if bytes.is_empty() {
+        Ok(())
+    } else {
+        text::hex(rt, bytes)
     }
-    Ok(())
 }

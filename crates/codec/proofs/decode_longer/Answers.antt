@@ -1,6 +1,5 @@
 -- `codec::decode_longer` meets its contract: three to five bytes by themselves, the rest by the loop.
 -- Assumes nothing.
-use Prim.Native.Nat.{◌+◌}
 use native.Mathlib.Omega.{arith}
 use Rattle.codec.proofs.Reading.{so_far_more, so_far_last}
 use Rattle.codec.proofs.decode_longer.Goals as goal
@@ -11,24 +10,18 @@ returns-then-third-lt128 c =
 
 pub returns-then-fourth-lt128 : goal.returns-then-fourth-lt128
 returns-then-fourth-lt128 c =
-    let known = c.type_inv.buf (c.args.at + 2) in
     let three = so_far_more _ _ 2 _ c.requires.1 _ c.from-third.ensures (omega arith) (omega arith) (omega arith) (omega arith) in
     so_far_last _ _ 3 _ three _ c.from-fourth.ensures (omega arith) (omega arith) (omega arith) (omega arith)
 
 pub returns-then-fifth-lt128 : goal.returns-then-fifth-lt128
 returns-then-fifth-lt128 c =
-    let known = c.type_inv.buf (c.args.at + 2) in
     let three = so_far_more _ _ 2 _ c.requires.1 _ c.from-third.ensures (omega arith) (omega arith) (omega arith) (omega arith) in
-    let known2 = c.type_inv.buf (c.args.at + 3) in
     let four = so_far_more _ _ 3 _ three _ c.from-fourth.ensures (omega arith) (omega arith) (omega arith) (omega arith) in
     so_far_last _ _ 4 _ four _ c.from-fifth.ensures (omega arith) (omega arith) (omega arith) (omega arith)
 
 pub decode_up_to-requires : goal.decode_up_to-requires
 decode_up_to-requires c =
-    let known = c.type_inv.buf (c.args.at + 2) in
     let three = so_far_more _ _ 2 _ c.requires.1 _ c.from-third.ensures (omega arith) (omega arith) (omega arith) (omega arith) in
-    let known2 = c.type_inv.buf (c.args.at + 3) in
     let four = so_far_more _ _ 3 _ three _ c.from-fourth.ensures (omega arith) (omega arith) (omega arith) (omega arith) in
-    let known3 = c.type_inv.buf (c.args.at + 4) in
     let five = so_far_more _ _ 4 _ four _ c.from-fifth.ensures (omega arith) (omega arith) (omega arith) (omega arith) in
     (omega arith, omega arith, omega arith, omega arith, five)

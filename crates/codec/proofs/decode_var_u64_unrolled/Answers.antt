@@ -1,6 +1,5 @@
 -- `codec::decode_var_u64_unrolled` meets its contract: fewer than nine bytes by `decode_var_u64`, one byte and two by themselves, the rest by `decode_longer`.
 -- Assumes nothing.
-use Prim.Native.Nat.{◌+◌}
 use mathlib.Core.Path.{sym}
 use native.Mathlib.Omega.{arith}
 use Rattle.codec.proofs.Reading.{first_short, first_one, first_two, so_far_one, so_far_more}
@@ -17,10 +16,8 @@ returns-then-second-lt128 c =
     first_two _ _ _ _ (omega arith) c.from-first.ensures c.from-second.ensures c.if-first-lt128.false c.if-second-lt128.true
 
 pub decode_longer-requires : goal.decode_longer-requires
-decode_longer-requires c =
-    let known = c.shared_slice_known-2-1.given c.args.at in
-    let known2 = c.shared_slice_known-3-1.given (c.args.at + 1) in (
-      omega arith,
-      so_far_more _ _ 1 _ (so_far_one _ _ _ (omega arith) c.from-first.ensures (omega arith) (omega arith)) _ c.from-second.ensures
-          (omega arith) (omega arith) (omega arith) (omega arith),
-    )
+decode_longer-requires c = (
+  omega arith,
+  so_far_more _ _ 1 _ (so_far_one _ _ _ (omega arith) c.from-first.ensures (omega arith) (omega arith)) _ c.from-second.ensures
+      (omega arith) (omega arith) (omega arith) (omega arith),
+)

@@ -1,15 +1,10 @@
 -- `item_lines::command_line` meets its contract.
 -- Assumes nothing.
-use Rattle.item_lines.proofs.Pieces.{joined, written}
 use Rattle.item_lines.proofs.Lines.{clean_same, compact_same}
 use Rattle.item_lines.proofs.command_line.Goals as goal
 
 pub returns-in-Clean : goal.returns-in-Clean
-returns-in-Clean c =
-    let a = c.args in
-    written _ a.out.now a.at c.field-end.ensures.longer (clean_same a.group c.in-Clean.is) c.finish.ensures
+returns-in-Clean c = clean_same _ c.in-Clean.is c.new-line.ensures c.field.ensures.text c.push.ensures
 
 pub returns-in-Compact : goal.returns-in-Compact
-returns-in-Compact c =
-    let a = c.args in
-    written _ a.out.now a.at (joined c.field-end.ensures.longer c.field-end-in-Compact.ensures.longer) (compact_same a.group c.in-Compact.is) c.finish-in-Compact.ensures
+returns-in-Compact c = compact_same _ c.in-Compact.is c.new-line.ensures c.field.ensures.text c.field-in-Compact.ensures.text c.push-in-Compact.ensures

@@ -1,11 +1,8 @@
--- `line::bytes` meets its contract. The loop's invariant, `Laid`: the bytes so far stand in front of what was there.
+-- The loop of `line::bytes`: the bytes so far stand in front of what was there.
 -- Assumes nothing.
-use Prim.Native.Nat.{◌-◌}
-use Rattle.line.proofs.Digits.{Laid}
+use Rattle.std.proofs.Common.{◌≡◌, ◌++◌, take, drop}
+use Rattle.line.specs.Hex.{hex_bytes}
 use Rattle.line.proofs.bytes.Given as goal
 
 abbrev pub invariant-loop-i : goal.invariant-loop-i
-invariant-loop-i l = Laid l.digits l.initial.out l.n l.out l.i
-
-abbrev pub decreases-loop-i : goal.decreases-loop-i
-decreases-loop-i l = l.n - l.i
+invariant-loop-i l = l.out ≡ take l.i (hex_bytes l.digits) ++ drop l.i l.initial.out

@@ -1,16 +1,15 @@
--- `line::find` meets its contract. The loop's invariant, `Passed`: none stands from the place asked for up to where the loop is.
+-- `line::find` meets its contract.
 -- Assumes nothing.
-use Rattle.line.proofs.Places.{behind_end, passed_end, passed_found, passed_more}
+use native.Mathlib.Omega.{arith}
+use lib.ListN.{drop, length, take, length-drop}
+use lib.Seq.{take_all}
+use Rattle.std.proofs.Common.{◌≡◌, ◌-◌}
+use Rattle.line.specs.Word.{index_of}
+use Rattle.line.proofs.Places.{found_or_end}
 use Rattle.line.proofs.find.Goals as goal
 
-pub returns-then-text-at : goal.returns-then-text-at
-returns-then-text-at c = behind_end _ _ _ c.if-text-at.true
-
-pub returns-then-text-place : goal.returns-then-text-place
-returns-then-text-place c = passed_found c.loop-place.invariant c.loop-place-test.true c.if-text-place.true
-
-pub loop-place-preserved : goal.loop-place-preserved
-loop-place-preserved c = passed_more c.loop-place.invariant c.loop-place-test.true c.if-text-place.false
-
 pub returns : goal.returns
-returns c = passed_end c.loop-place.invariant c.loop-place-test.false
+returns c =
+    let all : take (length c.args.text.now - c.args.at) (drop c.args.at c.args.text.now) ≡ drop c.args.at c.args.text.now = take_all _ _ (omega (arith, length-drop c.args.at c.args.text.now)) in
+    let place : c.unwrap_or.result ≡ index_of c.args.b (drop c.args.at c.args.text.now) = found_or_end _ _ (rw all at c.first.ensures) (rw all at c.unwrap_or.ensures) in
+    rw place

@@ -1,12 +1,8 @@
--- `line::value` meets its contract. The loop's invariant, `Spelt`: the number so far is what the digits passed spell, below 2 ^ 64.
+-- The loop of `line::value`: the number so far is what the digits passed spell, below 2 ^ 64.
 -- Assumes nothing.
-use Prim.Native.Nat.{◌-◌}
-use lib.ListN.{length}
-use Rattle.line.proofs.Digits.{Spelt}
+use Rattle.std.proofs.Common.{◌≡◌, ◌%◌, ◌^◌, take}
+use Rattle.line.specs.Hex.{hex_number}
 use Rattle.line.proofs.value.Given as goal
 
-abbrev pub invariant-loop-i : goal.invariant-loop-i
-invariant-loop-i l = Spelt l.digits l.n l.i
-
-abbrev pub decreases-loop-i : goal.decreases-loop-i
-decreases-loop-i l = length l.digits - l.i
+abbrev pub invariant-loop-d : goal.invariant-loop-d
+invariant-loop-d l = l.n ≡ hex_number (take l.d-index l.digits) % 2 ^ 64

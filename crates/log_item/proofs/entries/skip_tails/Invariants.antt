@@ -2,7 +2,7 @@
 -- Assumes nothing.
 use Prim.Native.Nat.{◌-◌}
 use mathlib.Core.Path.{◌≡◌}
-use Rattle.log_item.specs.Private.{pass_tails}
+use Rattle.log_item.specs.Passing.{pass_tails}
 use Rattle.log_item.proofs.entries.skip_tails.Given as goal
 
 abbrev pub invariant-loop : goal.invariant-loop
