@@ -2,12 +2,12 @@
 -- Assumes nothing.
 use Rattle.std.specs.Prelude.{◌≡◌, ℕ, ◌+◌, ◌*◌, cond, not, ◌&&◌, List, [], ◌++◌, length, ◌==◌, nat_le, Result, Ok, Err}
 use Rattle.refusal.specs.First.{◌else◌, ◌>>◌, ◌>>=◌}
-use Rattle.refusal.specs.declared.Reason.{Reason}
 use Rattle.refusal.specs.declared.Reason.TheVariants.{BlockDiffers, OutputShort, OutputTooLong}
 use Rattle.refusal.specs.declared.Refusal.{Refusal}
 use Rattle.words.specs.Word.{big_endian_bytes}
 use Rattle.list_writer.specs.declared.Measured.{Measured}
 use Rattle.list_writer.specs.Bytes.{footed}
+use Rattle.list_writer.specs.Refusing.{refused}
 use Rattle.list_writer.specs.Answers.{laid}
 
 -- empty, or content and its unsigned checksum: the footer under signature 0
@@ -26,18 +26,14 @@ header_bytes len offset = big_endian_bytes 8 (len * 256) ++ big_endian_bytes 8 o
 unfoldable pub front_bytes : ℕ → List ℕ → List ℕ
 front_bytes len content = header_bytes len (body_offset content) ++ block_bytes content
 
--- a refusal outside items
-abbrev pub outside : Reason → Refusal
-outside r = record { reason = r; item = 0 }
-
 -- nothing where there are no items and no content; else the body's refusals and its 22, 22 for the entry total, 20, 21
 unfoldable pub batch_encoded : Result Measured Refusal → ℕ → List ℕ → ℕ → Result ℕ Refusal
 batch_encoded m items content room = do
   not (items == 0 && length content == 0) else Ok 0
   b ← m
-  nat_le b.total 2147483647 else Err (outside OutputTooLong)
-  (b.total == length content) else Err (outside BlockDiffers)
-  nat_le (body_offset content + b.length) room else Err (outside OutputShort)
+  nat_le b.total 2147483647 else refused OutputTooLong 0
+  (b.total == length content) else refused BlockDiffers 0
+  nat_le (body_offset content + b.length) room else refused OutputShort 0
   Ok (body_offset content + b.length)
 
 -- the length of a body that is not refused
@@ -48,7 +44,7 @@ measured_length (Err r) = 0
 -- the same for a measure of any length: no body has more than 4294967295 bytes
 unfoldable pub front_encoded : Result Measured Refusal → ℕ → List ℕ → ℕ → Result ℕ Refusal
 front_encoded m items content room = do
-  nat_le (measured_length m) 4294967295 else Err (outside OutputTooLong)
+  nat_le (measured_length m) 4294967295 else refused OutputTooLong 0
   batch_encoded m items content room
 
 -- how many bytes an answer says that a batch has; a refused one has none

@@ -20,6 +20,7 @@ pub fn check_items(buf: &[u8]) -> Result<BodyCheck, Refusal>
 }
 
 // What a body with its footer holds, under a signature, with no table.
+#[tactic(auto, unfolding(crate::specs::Body::read_body), using(crate::proofs::Sealing::seal_long))]
 pub fn check(body: &[u8], signature: u32) -> Result<BodyCheck, Refusal>
     ensures { result ≡ check_of (read_body body.now signature) }
 {
@@ -29,6 +30,7 @@ pub fn check(body: &[u8], signature: u32) -> Result<BodyCheck, Refusal>
 }
 
 // Whether each number of a body has its shortest spelling.
+#[tactic(auto, unfolding(crate::specs::Answers::plain_body), using(crate::proofs::Checking::accepted_long))]
 pub fn plain(body: &[u8], signature: u32) -> Result<bool, Refusal>
     ensures { result ≡ plain_body body.now signature }
 {
@@ -38,6 +40,7 @@ pub fn plain(body: &[u8], signature: u32) -> Result<bool, Refusal>
 }
 
 // What a body without its footer holds, where its numbers are asked for in a form.
+#[tactic(auto, unfolding(crate::specs::Reading::read_items))]
 fn check_form(buf: &[u8], form: Form) -> Result<BodyCheck, Refusal>
     ensures { result ≡ check_of (read_items form buf.now) }
 {
@@ -46,6 +49,7 @@ fn check_form(buf: &[u8], form: Form) -> Result<BodyCheck, Refusal>
 }
 
 // How many items a body without its footer says that it has.
+#[tactic(auto, unfolding(crate::specs::Reading::count, log_item::specs::Pieces::number))]
 pub(crate) fn read_item_count(buf: &[u8], form: Form) -> Result<Piece<u64>, Reason>
     ensures { got_of result ≡ count form buf.now 0 }
 {

@@ -12,6 +12,7 @@ const MARK_KEY: [u8; 3] = *b"__\x01";
 
 impl AtomicGroupStatus {
     // What an item marks, or none where it is no mark. `store` has the bytes that the item's spans lie in.
+    #[tactic(auto, unfolding(crate::specs::Status::status_of, crate::specs::Status::mark_of))]
     pub fn parse(item: LogItem, store: &[u8]) -> Result<Option<Mark>, Reason>
         ensures { result ≡ status_of item.raft_group_id item.content store.now }
     {
@@ -32,6 +33,7 @@ impl AtomicGroupStatus {
 }
 
 // What a put marks, its content lying in the store.
+#[tactic(auto, unfolding(crate::specs::Status::mark_of, crate::specs::Status::marked))]
 fn mark_of(group: u64, key: Span, value: Span, store: &[u8]) -> Result<Option<Mark>, Reason>
     requires { inside store.now value ≡ true }
     ensures { result ≡ mark_of group key (Op.Put value) store.now }

@@ -55,6 +55,7 @@ impl LogItemBatch {
     }
 
     // The table of a body with its footer, under a signature, or the empty table with the refusal.
+    #[tactic(auto, unfolding(crate::specs::Body::read_body, crate::specs::Table::table_of), using(crate::proofs::Sealing::seal_long))]
     pub fn decode(body: &[u8], signature: u32) -> LogItemBatch
         ensures { result ≡ body_table body.now (read_body body.now signature) }
     {
@@ -68,6 +69,7 @@ impl LogItemBatch {
     }
 
     // The table of a body without its footer; `len` is how long a body it states, from 0 on.
+    #[tactic(auto, unfolding(crate::specs::Reading::read_items, crate::specs::Table::table_of))]
     fn fill(buf: &[u8], len: usize) -> LogItemBatch
         ensures { result ≡ table_of (record { at = 0; len = len }) (record { at = 0; len = 0 }) (read_items Form.Any buf.now) }
     {
