@@ -73,7 +73,7 @@ fn fill(buf: &[u8], items: &mut [u64], entries: &mut [u64])
         at = head.next;
         let listed = item.entries();
         let mut index = listed.first_index;
-        for _n in 0..listed.count {
+        for _ in 0..listed.count {
             let Ok(tail) = EntryIndexes::decode_tail(buf, at, total) else {
                 return;
             };
