@@ -35,6 +35,7 @@ pub extern "C" fn speed_check_items(body: &[u8], answer: &mut [u64; 1]) -> u32
 
 // A body stepped through by a cursor, and each item's rows one by one: how many items and entries there are.
 #[unsafe(no_mangle)]
+#[tactic(auto, using(crate::proofs::Counting::at_start, crate::proofs::Counting::item_more, crate::proofs::Counting::end_counted))]
 pub extern "C" fn speed_steps(body: &[u8], signature: u32, answer: &mut [u64; 2]) -> u32
     ensures { reply result answer.new ≡ steps_reply (check_of (read_body body.now signature)) }
 {
@@ -62,6 +63,7 @@ pub extern "C" fn speed_steps(body: &[u8], signature: u32, answer: &mut [u64; 2]
 }
 
 // How many rows an item has, by reading them.
+#[tactic(auto, using(item_reader::proofs::Ends::row_passed, crate::proofs::Counting::one_more, crate::proofs::Counting::room, crate::proofs::Counting::none_counted, crate::proofs::Counting::all_counted))]
 fn count_rows(body: &[u8], rows: EntryRows) -> usize
     ensures { (xs : List EntryIndex) → GoesThrough (sealed_part body.now) rows xs → result ≡ length xs }
 {
