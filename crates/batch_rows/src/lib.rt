@@ -21,6 +21,7 @@ pub struct BatchCheck {
 
 // A whole batch under a signature, read as LogBatch::decode does, but into lent rows: seven words to an item and three to an entry. Where too
 // few are lent it is a 21. A refused batch leaves them as they were.
+#[tactic(auto, using(log_batch::proofs::Frames::front_known))]
 pub fn read_rows(
     buf: &[u8],
     signature: u32,
