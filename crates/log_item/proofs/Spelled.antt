@@ -2,7 +2,7 @@
 -- Assumes nothing.
 use Prim.Native.Nat.{ℕ, zero, suc, ◌+◌, ◌-◌, ◌≤◌, ◌<◌, ◌^◌}
 use mathlib.Core.Path.{◌≡◌, refl, ap, ◌∙◌}
-use mathlib.Core.Bool.{true, false, not, cond, and-eq-true_iff}
+use mathlib.Core.Bool.{true, false, not, and-eq-true_iff}
 use mathlib.Core.List.{List, [], ◌∷◌, ◌++◌, map, append_assoc}
 use native.Mathlib.Omega.{arith}
 use lib.ListN.{length, drop, length-take}
@@ -68,7 +68,7 @@ content_written s p (contents.Kv k) h z = go k.op h z
   where
     go : (o : Op) → op_inside s k.key o ≡ true → Small (numbers_of (contents.Kv (record { key = k.key; op = o }))) → Contents (NumberIn Plain) (contents.Kv (key_at p k.key o)) p (op_bytes s k.key o)
     go (Put v) i (one a (one b c)) =
-        let both = (and-eq-true_iff _ _).0 i in
+        let both : (inside s k.key ≡ true) × (inside s v ≡ true) = (and-eq-true_iff _ _).0 i in
         let e : p + 1 + length (span_bytes s k.key) ≡ p + 1 + length (shortest k.key.len) + k.key.len = omega (arith, span_length_lem s k.key both.0) in
         rw e at (put (span_written s (p + 1) k.key both.0 a) (span_written s (p + 1 + length (span_bytes s k.key)) v both.1 b))
     go Del i (one a c) = delete (span_written s (p + 1) k.key i a)
@@ -139,7 +139,7 @@ module _ (s : List ℕ) {b : List ℕ} where
       go : (o : Op) → op_inside s k.key o ≡ true → At b p q (op_bytes s k.key o)
           → map (bytes_of b) (spans_of (contents.Kv (key_at p k.key o))) ≡ map (bytes_of s) (spans_of (contents.Kv (record { key = k.key; op = o })))
       go (Put v) i f =
-          let both = (and-eq-true_iff _ _).0 i in
+          let both : (inside s k.key ≡ true) × (inside s v ≡ true) = (and-eq-true_iff _ _).0 i in
           let c = cut (span_bytes s k.key) (cut (1 ∷ []) f).1 in
           let e : p + 1 + length (span_bytes s k.key) ≡ p + 1 + length (shortest k.key.len) + k.key.len = omega (arith, span_length_lem s k.key both.0) in
           let key = span_kept k.key both.0 c.0 in

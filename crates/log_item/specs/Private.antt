@@ -1,6 +1,8 @@
 -- What the contracts of private functions cite: this file serves them alone, and no public contract.
 -- Assumes nothing.
-use Rattle.std.specs.Prelude.{ℕ, ◌+◌, ◌≤◌, min, ◌≡◌, cond, List, length}
+use Rattle.std.specs.Prelude.{ℕ, ◌+◌, ◌≤◌, min, ◌≡◌, not, Result, Ok, Err, List, length}
+use Rattle.refusal.specs.First.{◌else◌, ◌>>◌}
+use Rattle.refusal.specs.declared.Reason.{Reason}
 use Rattle.std.proofs.lemmas.List.Edits.{sets}
 use Rattle.codec.specs.Shortest.{shortest}
 use Rattle.log_item.specs.declared.Span.{Span}
@@ -11,8 +13,7 @@ use Rattle.log_item.specs.declared.LogItemContent.TheVariants as contents
 use Rattle.log_item.specs.declared.LogItem.{LogItem}
 use Rattle.log_item.specs.Bytes.{entries_bytes, command_bytes, tails_bytes}
 use Rattle.log_item.specs.Written.{sum_of, tail_above}
-use Rattle.log_item.specs.declared.TailsSize.{TailsSize}
-use Rattle.log_item.specs.declared.TailsSize.TheVariants.{Fine, TooLarge}
+use Rattle.refusal.specs.declared.Reason.TheVariants.{TailTooLarge}
 
 -- bytes fit from a place on
 pub record Room (out : List ℕ) (at : ℕ) (bs : List ℕ) : Type 0 where
@@ -43,6 +44,8 @@ item_content_length (contents.Kv k) = op_length k.key k.op
 unfoldable pub head_length : LogItem → ℕ
 head_length x = length (shortest x.raft_group_id) + (1 + item_content_length x.content)
 
--- the length of tails and the total after them, or that one is too large
-unfoldable pub tails_size : List ℕ → ℕ → TailsSize
-tails_size lengths t = cond (tail_above lengths t) TooLarge (Fine (fitted (length (tails_bytes lengths t))) (sum_of t lengths))
+-- the length of tails behind what has the length n, and the total after them; 16 where one is too large
+unfoldable pub tails_size : ℕ → List ℕ → ℕ → Result (ℕ × ℕ) Reason
+tails_size n lengths t = do
+  not (tail_above lengths t) else Err TailTooLarge
+  Ok (fitted (n + length (tails_bytes lengths t)), sum_of t lengths)

@@ -6,12 +6,9 @@ ghost use Rattle.log_item.specs.Reading.{entry_count_of, first_index_of, tail};
 ghost use Rattle.log_item.specs.Passing.{as_tail, pass_tails};
 
 use crate::piece::read_number_in;
-use crate::{EntryIndexes, Form};
+use crate::{ENTRIES_MAX, EntryIndexes, Form};
 use refusal::Reason;
 use words::Piece;
-
-// How many entries a batch may have.
-const ENTRIES_MAX: usize = 1024;
 
 // A count of entries, with `used` before them in the batch.
 #[tactic(auto, unfolding(crate::specs::Reading::entry_count_of))]
@@ -114,17 +111,15 @@ fn read_short(buf: &[u8], at: usize, form: Form) -> Result<Piece<u64>, Reason>
     ensures { got_of result ≡ number form buf.now at }
 {
     if let Form::Any = form {
-        if at < buf.len() && 2 < buf.len() - at {
-            let a = u64::from(buf[at]);
+        if let Some([a, b, c, ..]) = buf.get(at..) {
+            let [a, b, c] = [u64::from(*a), u64::from(*b), u64::from(*c)];
             if 128 <= a {
-                let b = u64::from(buf[at + 1]);
                 if b < 128 {
                     return Ok(Piece {
                         value: a - 128 + (b << 7),
                         next: at + 2,
                     });
                 }
-                let c = u64::from(buf[at + 2]);
                 if c < 128 {
                     return Ok(Piece {
                         value: a - 128 + ((b - 128) << 7) + (c << 14),

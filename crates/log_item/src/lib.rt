@@ -26,6 +26,9 @@ pub use prefix::{INTERNAL_KEY_PREFIX, lies_in, starts_with};
 use refusal::Reason;
 use words::Piece;
 
+// How many entries a batch may have.
+pub(crate) const ENTRIES_MAX: usize = 1024;
+
 // Where bytes stand in the body.
 #[derive(Clone, Copy)]
 pub struct Span {
