@@ -56,6 +56,9 @@ room_then {bs = bs} cs p h = record { fits = omega (arith, length-append bs cs, 
 pub room_first : {out : List ℕ} {at : ℕ} (bs cs : List ℕ) → Room out at (bs ++ cs) → Room out at bs
 room_first bs cs h = record { fits = omega (arith, length-append bs cs, h.fits) }
 
+-- For bytes that are stored one after the other
+pub ruleset in_turn = (room_first, room_then, stored_then)
+
 -- Bytes that there is room for are stored where they are placed.
 pub stored_placed : {out later : List ℕ} {at n : ℕ} {bs : List ℕ} → Room out at bs → n ≡ at + length bs → later ≡ placed out at bs → Stored out at bs n later
 stored_placed {out} {later} {at} {n} {bs} h e p = record { after = e; stored = (simp (le-leb _ _ h.fits) at p) ∙ sym (sets-eq bs out at h.fits) }

@@ -121,7 +121,7 @@ fn tails_size(lengths: &[u32], before: u32) -> Result<(usize, u32), Reason>
 
 // ---- writing where there is room
 
-#[tactic(auto, unfolding(crate::specs::Bytes::head_bytes), using(crate::proofs::Stores::room_first, crate::proofs::Stores::room_then, crate::proofs::Stores::stored_then))]
+#[tactic(auto, unfolding(crate::specs::Bytes::head_bytes), using(crate::proofs::Stores::in_turn))]
 fn put_head(item: LogItem, store: &[u8], out: &mut [u8], at: usize) -> usize
     requires lies { content_inside store.now item.content ≡ true }
     requires room { Room out.old at (head_bytes store.now item) }
@@ -132,7 +132,7 @@ fn put_head(item: LogItem, store: &[u8], out: &mut [u8], at: usize) -> usize
 }
 
 // The type byte and the content.
-#[tactic(auto, unfolding(crate::specs::Bytes::content_bytes), using(crate::proofs::Stores::room_first, crate::proofs::Stores::room_then, crate::proofs::Stores::stored_then))]
+#[tactic(auto, unfolding(crate::specs::Bytes::content_bytes), using(crate::proofs::Stores::in_turn))]
 fn put_content(content: LogItemContent, store: &[u8], out: &mut [u8], at: usize) -> usize
     requires lies { content_inside store.now content ≡ true }
     requires room { Room out.old at (type_of content ∷ content_bytes store.now content) }
@@ -154,7 +154,7 @@ fn put_content(content: LogItemContent, store: &[u8], out: &mut [u8], at: usize)
     }
 }
 
-#[tactic(auto, using(crate::proofs::Lengths::entries_none, crate::proofs::Lengths::entries_some, crate::proofs::Stores::room_first, crate::proofs::Stores::room_then, crate::proofs::Stores::stored_then))]
+#[tactic(auto, using(crate::proofs::Lengths::entries_none, crate::proofs::Lengths::entries_some, crate::proofs::Stores::in_turn))]
 fn put_entries(e: EntryIndexes, out: &mut [u8], at: usize) -> usize
     requires { Room out.old at (entries_bytes e.count e.first_index) }
     ensures { Stored out.old at (entries_bytes e.count e.first_index) result out.new }
@@ -167,7 +167,7 @@ fn put_entries(e: EntryIndexes, out: &mut [u8], at: usize) -> usize
     put_number(e.first_index, out, next)
 }
 
-#[tactic(auto, unfolding(crate::specs::Bytes::command_bytes), using(crate::proofs::Stores::room_first, crate::proofs::Stores::room_then, crate::proofs::Stores::stored_then))]
+#[tactic(auto, unfolding(crate::specs::Bytes::command_bytes), using(crate::proofs::Stores::in_turn))]
 fn put_command(c: Command, out: &mut [u8], at: usize) -> usize
     requires { Room out.old at (command_bytes c) }
     ensures { Stored out.old at (command_bytes c) result out.new }
@@ -181,7 +181,7 @@ fn put_command(c: Command, out: &mut [u8], at: usize) -> usize
     }
 }
 
-#[tactic(auto, unfolding(crate::specs::Bytes::op_bytes), using(crate::proofs::Stores::room_first, crate::proofs::Stores::room_then, crate::proofs::Stores::stored_then))]
+#[tactic(auto, unfolding(crate::specs::Bytes::op_bytes), using(crate::proofs::Stores::in_turn))]
 fn put_op(kv: KeyValue, store: &[u8], out: &mut [u8], at: usize) -> usize
     requires lies { op_inside store.now kv.key kv.op ≡ true }
     requires room { Room out.old at (op_bytes store.now kv.key kv.op) }
@@ -200,7 +200,7 @@ fn put_op(kv: KeyValue, store: &[u8], out: &mut [u8], at: usize) -> usize
     }
 }
 
-#[tactic(auto, unfolding(crate::specs::Bytes::span_bytes), using(crate::proofs::Stores::room_first, crate::proofs::Stores::room_then, crate::proofs::Stores::stored_then))]
+#[tactic(auto, unfolding(crate::specs::Bytes::span_bytes), using(crate::proofs::Stores::in_turn))]
 fn put_span(span: Span, store: &[u8], out: &mut [u8], at: usize) -> usize
     requires lies { inside store.now span ≡ true }
     requires room { Room out.old at (span_bytes store.now span) }
