@@ -72,37 +72,24 @@ footed_length signature bs =
 
 -- ---- count, items, footer, one after the other
 
-module _ {s : List ℕ} {checked : Bool} {xs : List LogItem} {ns : List ℕ} {long : ℕ} (a : Accepted s checked xs ns long) {n : ℕ} (size : length xs ≡ n)
-    (out : List ℕ) (at : ℕ) (fit : at + long ≤ length out) where
-  count_length : length (shortest n) ≡ length (shortest (length xs))
-  count_length = ap (λ (k : ℕ). length (shortest k)) (sym size)
+module _ {s : List ℕ} {checked : Bool} {xs : List LogItem} {ns : List ℕ} {long : ℕ} (a : Accepted s checked xs ns long) {out : List ℕ} {at : ℕ}
+    (fit : at + long ≤ length out) where
+  pub writing_begins : {n next : ℕ} {mid : List ℕ} → length xs ≡ n → (next ≡ next_at out at (shortest n)) × (mid ≡ placed out at (shortest n))
+      → Writing s xs ns out at mid next 0 0 0 0
+  writing_begins {n} size wrote =
+      let same : length (shortest n) ≡ length (shortest (length xs)) = ap (λ (k : ℕ). length (shortest k)) (sym size) in
+      let p : Stored out at (shortest (length xs)) _ _ = rw size (stored_at (record { fits = omega (arith, fit, a.whole, same) }) wrote) in
+      writing_start s checked xs ns a.total a.told p (omega (arith, fit, a.whole, p.after, stored_length p))
 
-  count_room : Room out at (shortest n)
-  count_room = record { fits = omega (arith, fit, a.whole, count_length) }
-
-  module _ {mid : List ℕ} {start : ℕ} (wrote : (start ≡ next_at out at (shortest n)) × (mid ≡ placed out at (shortest n))) where
-    first : Stored out at (shortest n) start mid
-    first = stored_at count_room wrote
-
-    pub writing_begins : Writing s xs ns mid start mid start 0 0 0 0
-    writing_begins =
-        writing_start s checked xs ns mid start a.total a.told
-        (omega (arith, fit, a.whole, count_length, first.after, stored_length first))
-
-    module _ {later : List ℕ} {next i j tails t : ℕ} (w : Writing s xs ns mid start later next i j tails t) (z : tails ≤ 0) (h : length xs ≤ i) where
-      footer_room : (at ≤ next) × (next + 4 ≤ length later)
-      footer_room =
-          let e = writing_end w z h in
-          (omega (arith, first.after, e.0.after), e.1)
-
-      pub body_stored : (signature : ℕ) {last : ℕ} {final : List ℕ}
-          → (last ≡ footer_next signature at next later) × (final ≡ footer_placed signature at next later) → Stored out at (body_bytes s xs ns signature) last final
-      unfolding list_bytes
-      body_stored signature f =
-          let one : Stored out at (shortest (length xs)) start mid = rw size first in
-          let whole : Stored out at (list_bytes s xs ns) next later = stored_then one (writing_end w z h).0 in
-          with_footer signature
-          (omega (arith, fit, a.whole, length-append (shortest (length xs)) (items_bytes s xs ns 0))) whole (footer_stored signature at next footer_room.0 footer_room.1 f)
+  module _ {later : List ℕ} {next i j tails t : ℕ} (w : Writing s xs ns out at later next i j tails t) (z : tails ≤ 0) (h : length xs ≤ i) where
+    pub body_stored : (signature : ℕ) {last : ℕ} {final : List ℕ}
+        → (last ≡ footer_next signature at next later) × (final ≡ footer_placed signature at next later) → Stored out at (body_bytes s xs ns signature) last final
+    unfolding list_bytes
+    body_stored signature f =
+        let e = writing_end w z h in
+        with_footer signature
+        (omega (arith, fit, a.whole, length-append (shortest (length xs)) (items_bytes s xs ns 0))) e.0
+        (footer_stored signature at next (omega (arith, e.0.after)) e.1 f)
 
 pub body_length : {s : List ℕ} {checked : Bool} {xs : List LogItem} {ns : List ℕ} {long : ℕ} (signature : ℕ) → Accepted s checked xs ns long
     → length (body_bytes s xs ns signature) ≡ long
@@ -125,17 +112,24 @@ module _ (m : Measured) (all at : ℕ) where
 
 -- ---- the ways out
 
-module _ (out : List ℕ) (at : ℕ) (bs : List ℕ) where
-  pub refused_laid : (e : Result Measured Refusal) {r : Refusal} → Err r ≡ encoded_in e (length out) at → MeasuredWritten e bs out at (Err r) out
+module _ (out : List ℕ) (at : ℕ) (bs : List ℕ) {e : Result Measured Refusal} where
+  pub refused_laid : {r : Refusal} → e ≡ Err r → MeasuredWritten e bs out at (Err r) out
   unfolding laid encoded_of
-  refused_laid e h = record { answer = h; written = refl }
+  refused_laid h = rw h (record { answer = refl; written = refl })
 
-  pub all_laid : (m : Measured) {n next : ℕ} {later : List ℕ} → Ok n ≡ encoded_in (Ok m) (length out) at → length bs ≡ m.length → 0 < n
-      → Stored out at bs next later → MeasuredWritten (Ok m) bs out at (Ok n) later
-  unfolding laid encoded_of
-  all_laid m {n} {next} {later} p k some w =
-      let fit : at + length bs ≤ length out = omega (arith, (placing_told m (length out) at p).0) in
-      record { answer = p; written = w.stored ∙ sets-eq bs out at fit ∙ (rw (pos_eqb n some, le-leb (at + length bs) (length out) fit)) }
-    where
-      pos_eqb : (k : ℕ) → 0 < k → eqb k 0 ≡ false
-      pos_eqb k h = ne_eqb k 0 λ z. omega arith
+  module _ {m : Measured} (h : e ≡ Ok m) where
+    pub short_laid : {r : Refusal} → Err r ≡ encoded_in (Ok m) (length out) at → MeasuredWritten e bs out at (Err r) out
+    unfolding laid encoded_of
+    short_laid p = rw h (record { answer = p; written = refl })
+
+    pub all_laid : {n next : ℕ} {later : List ℕ} → Ok n ≡ encoded_in (Ok m) (length out) at → length bs ≡ m.length → 0 < length bs
+        → Stored out at bs next later → MeasuredWritten e bs out at (Ok n) later
+    unfolding laid encoded_of
+    all_laid {n} {next} {later} p k some w =
+        let f = placing_told m (length out) at p in
+        let fit : at + length bs ≤ length out = omega (arith, f.0) in
+        rw h
+        (record {
+          answer = p;
+          written = w.stored ∙ sets-eq bs out at fit ∙ (rw (ne_eqb n 0 (λ z. omega (arith, f.1)), le-leb (at + length bs) (length out) fit));
+        })

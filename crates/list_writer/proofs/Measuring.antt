@@ -134,6 +134,14 @@ module _ (s : List ℕ) (checked : Bool) (xs : List LogItem) (ns : List ℕ) whe
           told = sym (rw (le-ltb 4294967295 (t + r) l) at v) ∙ m.told;
         }
 
+    -- the same at places and sums that are equal to these
+    pub measuring_entry : (r u n : ℕ) {next left : ℕ} → 0 < tails → get_or ns j 0 ≡ r → u ≡ t + r → u ≤ 4294967295 → n ≡ length (shortest u)
+        → next ≡ j + 1 → left ≡ tails - 1 → Measuring s checked xs ns first i next left u (size + n)
+    measuring_entry r u n h e q l p a b = rw (a, b, q) (measuring_row r n h e (omega arith) (rw q at p))
+
+    pub measuring_same : {next left : ℕ} → next ≡ j → left ≡ tails → Measuring s checked xs ns first i next left t size
+    measuring_same a b = rw (a, b) m
+
     pub measuring_row_refused : (r : ℕ) → 0 < tails → get_or ns j 0 ≡ r → 4294967295 < t + r → items_verdict s checked xs ns 0 0 0 ≡ refused TailTooLarge (i - 1)
     measuring_row_refused r h e l =
         let v = rw e at (told_row s xs ns checked i j tails t h m.room) in

@@ -4,18 +4,28 @@
 // Every public function takes any rows and counts, and spans that lie anywhere. A refused body is not written at all.
 #![tactic(auto)]
 
-ghost use Rattle.std.specs.Prelude.{◌≡◌, Ok, length};
+ghost use Rattle.std.specs.Prelude.{◌≡◌, Ok, length, map};
 ghost use Rattle.list_writer.specs.Bytes.{items_of, lengths_of, body_bytes};
 ghost use Rattle.list_writer.specs.Answers.{measured_of, measure_of, encoded_in, MeasuredWritten};
+ghost use Rattle.list_writer.specs.Refusing.{at_item};
+ghost use Rattle.list_writer.specs.Private.{row_head};
+ghost use Rattle.list_writer.specs.Rows.{rows_measure, rows_bytes};
 ghost use Rattle.list_writer.specs.Pieces.{head_next, head_placed, footer_next, footer_placed};
 
-use log_item::{EntryIndex, LogItem};
+use item_row::{EntryRow, ItemRow};
+use log_item::{EntryIndex, HeadSize, LogItem};
 use refusal::{Reason, Refusal};
 
 // How long a body may be, and how many bytes of it are its footer.
 pub const BODY_LEN_MAX: usize = 4294967295;
 
 const FOOTER_LEN: usize = 4;
+
+// Why a list of more than 256 items is refused.
+const MANY: Refusal = Refusal {
+    reason: Reason::ItemsTooMany,
+    item: 0,
+};
 
 // The length of a body, footer included, and the sum of its entry lengths.
 #[derive(Clone, Copy)]
@@ -24,7 +34,8 @@ pub struct Measured {
     pub total: u32,
 }
 
-// The first refusal of a body but 21, or its length and entry total.
+// The first refusal of a body but 21, or its length and entry total: of a table's rows, as many as it says.
+#[tactic(auto, using(crate::proofs::Tables::table_many, crate::proofs::Tables::table_measured))]
 pub fn measure(
     items: [LogItem; 256],
     item_count: usize,
@@ -36,34 +47,61 @@ pub fn measure(
     ensures { result ≡ measure_of store.now checked (items_of items item_count) (lengths_of entries entry_count) }
 {
     if 256 < item_count {
-        return Err(Refusal {
-            reason: Reason::ItemsTooMany,
-            item: 0,
-        });
+        return Err(MANY);
     }
-    let rows = entry_count.min(1024);
-    let mut size = codec::var_u64_len(item_count as u64);
+    let rows = &entries[..entry_count.min(1024)];
+    measure_rows(&items[..item_count], rows, store, checked)
+}
+
+// The first refusal of a list but 21, or the length of its body and its entry total.
+pub fn measure_rows<I: ItemRow, E: EntryRow>(
+    items: &[I],
+    entries: &[E],
+    store: &[u8],
+    checked: bool,
+) -> Result<Measured, Refusal>
+    ensures { result ≡ rows_measure store.now checked (map I.spelled items.now) (map E.length entries.now) }
+{
+    if 256 < items.len() {
+        return Err(MANY);
+    }
+    let mut size = codec::var_u64_len(items.len() as u64);
     let mut used: usize = 0;
     let mut total: u32 = 0;
-    for (i, item) in items[..item_count].iter().enumerate() {
-        let head = match item.measure(store, checked, used, rows) {
-            Ok(head) => head,
-            Err(reason) => return Err(Refusal { reason, item: i }),
-        };
+    for (i, row) in items.iter().enumerate() {
+        let head = measure_row(row, i, store, checked, used, entries.len())?;
         size += head.len;
-        for row in &entries[used..used + head.count] {
-            if u32::MAX - total < row.entry_len {
+        for entry in &entries[used..used + head.count] {
+            let len = entry.entry_len();
+            if u64::from(u32::MAX - total) < len {
                 return Err(Refusal {
                     reason: Reason::TailTooLarge,
                     item: i,
                 });
             }
-            total += row.entry_len;
+            total += len as u32;
             size += codec::var_u64_len(u64::from(total));
         }
         used += head.count;
     }
     finish(size, total)
+}
+
+// The first refusal of row i but 16, or its length up to its tails and how many entry rows it uses.
+fn measure_row<I: ItemRow>(
+    row: &I,
+    i: usize,
+    store: &[u8],
+    checked: bool,
+    used: usize,
+    rows: usize,
+) -> Result<HeadSize, Refusal>
+    ensures { result ≡ at_item i (row_head store.now checked used rows (I.spelled row.now)) }
+{
+    let head = row
+        .item()
+        .and_then(|item| item.measure(store, checked, used, rows));
+    head.map_err(|reason| Refusal { reason, item: i })
 }
 
 // What is answered for a list of so many bytes that is not refused: 22, or its length with the footer.
@@ -83,7 +121,7 @@ pub fn finish(size: usize, total: u32) -> Result<Measured, Refusal>
     })
 }
 
-// Writes the body at a place of out and answers how many bytes it has, or leaves out as it was and says why.
+// Writes the body of a table's rows at a place of out and answers how many bytes it has, or leaves out as it was and says why.
 pub fn encode(
     items: [LogItem; 256],
     item_count: usize,
@@ -97,16 +135,38 @@ pub fn encode(
 ) -> Result<usize, Refusal>
     ensures { MeasuredWritten (measure_of store.now checked (items_of items item_count) (lengths_of entries entry_count)) (body_bytes store.now (items_of items item_count) (lengths_of entries entry_count) signature) out.old at result out.new }
 {
-    let m = measure(items, item_count, entries, entry_count, store, checked)?;
+    if 256 < item_count {
+        return Err(MANY);
+    }
+    let rows = &entries[..entry_count.min(1024)];
+    encode_rows(&items[..item_count], rows, store, signature, checked, out, at)
+}
+
+// Writes the body of a list at a place of out and answers how many bytes it has, or leaves out as it was and says why.
+pub fn encode_rows<I: ItemRow, E: EntryRow>(
+    items: &[I],
+    entries: &[E],
+    store: &[u8],
+    signature: u32,
+    checked: bool,
+    out: &mut [u8],
+    at: usize,
+) -> Result<usize, Refusal>
+    ensures { MeasuredWritten (rows_measure store.now checked (map I.spelled items.now) (map E.length entries.now)) (rows_bytes store.now (map I.spelled items.now) (map E.length entries.now) signature) out.old at result out.new }
+{
+    let m = measure_rows(items, entries, store, checked)?;
     let length = placing(m, out.len(), at)?;
-    let mut next = codec::put_var_u64(item_count as u64, out, at);
+    let mut next = codec::put_var_u64(items.len() as u64, out, at);
     let mut used: usize = 0;
     let mut total: u32 = 0;
-    for item in &items[..item_count] {
-        next = write_head(*item, store, out, next);
+    for row in items {
+        let Ok(item) = row.item() else {
+            return Ok(length);
+        };
+        next = write_head(item, store, out, next);
         let count = item.entries().count;
-        for row in &entries[used..used + count] {
-            total += row.entry_len;
+        for entry in &entries[used..used + count] {
+            total += entry.entry_len() as u32;
             next = codec::put_var_u64(u64::from(total), out, next);
         }
         used += count;
