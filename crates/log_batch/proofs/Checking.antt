@@ -5,10 +5,14 @@ use borrow.Author.Tests.{lt-leb}
 use Rattle.log_item.specs.Got.{Got, got, refused, done, bind}
 use Rattle.log_item.specs.Reading.{Read, one_item}
 use Rattle.log_item.specs.Pieces.{number}
-use Rattle.log_item.specs.Answers.{pass_item}
+use Rattle.words.specs.declared.Piece.{Piece}
+use Rattle.words.specs.Word.{piece}
+use Rattle.log_item.specs.Answers.{pass_item, not_passed, passed_of}
+use Rattle.log_item.specs.declared.NotPassed.{NotPassed}
+use Rattle.log_item.specs.declared.NotPassed.TheVariants.{Padded, Refused}
 use Rattle.log_item.specs.declared.Passed.{Passed}
 use Rattle.refusal.specs.declared.Reason.{Reason}
-use Rattle.refusal.specs.declared.Reason.TheVariants.{ItemsTooMany}
+use Rattle.refusal.specs.declared.Reason.TheVariants.{ItemsTooMany, NotShortest}
 use Rattle.refusal.specs.declared.Refusal.{Refusal}
 use Rattle.log_item.specs.declared.Form.{Form}
 use Rattle.log_item.specs.declared.LogItem.{LogItem}
@@ -41,6 +45,22 @@ module _ (form : Form) (s : List ℕ) where
     counted_few = of_got count_holds e
 
 -- ---- the items
+
+-- why an item is not gone over
+abbrev pub reason_of : NotPassed → Reason
+reason_of (Refused r) = r
+reason_of Padded = NotShortest
+
+reason_told : (r : Reason) → reason_of (not_passed r) ≡ r
+reason_told r = grind arith
+
+refused_told : (g : Got Passed) {e : NotPassed} → Err e ≡ passed_of g → g ≡ refused (reason_of e)
+refused_told (got x q) e = cc
+refused_told (refused r) {e = f} e = let same : f ≡ not_passed r = cc in rw (same, reason_told r)
+
+passed_told : (g : Got Passed) {x : Piece Passed} → Ok x ≡ passed_of g → g ≡ got x.value x.next
+passed_told (got x q) {x = y} e = let same : y ≡ piece x q = cc in rw same
+passed_told (refused r) e = cc
 
 -- what a body holds, where i items with e entries stand before those of the answer
 abbrev pub held_after : ℕ → ℕ → Answer → Result BodyCheck Refusal
@@ -99,11 +119,11 @@ module _ (form : Form) (s : List ℕ) where
       past : {g : Got Passed} → pass_item form s used total at ≡ g → held_past (count - (i + 1)) i g ≡ check_of (items form s count 0 0 0 start)
       past h = ap (held_past (count - (i + 1)) i) (sym h) ∙ held_past_lem (count - (i + 1)) i used total at ∙ rw (← rest) l.comes
 
-      pub left_next : {x : Passed} {q : ℕ} → pass_item form s used total at ≡ got x q → ItemsLeft count start (i + 1) q x.total x.used
-      left_next h = record { few = omega arith; comes = past h }
+      pub left_next : {x : Piece Passed} → Ok x ≡ passed_of (pass_item form s used total at) → ItemsLeft count start (i + 1) x.next x.value.total x.value.used
+      left_next h = record { few = omega arith; comes = past (passed_told _ h) }
 
-      pub left_refused : {r : Reason} → pass_item form s used total at ≡ refused r → Err (record { reason = r; item = i }) ≡ check_of (items form s count 0 0 0 start)
-      left_refused h = past h
+      pub left_refused : {e : NotPassed} → Err e ≡ passed_of (pass_item form s used total at) → Err (record { reason = reason_of e; item = i }) ≡ check_of (items form s count 0 0 0 start)
+      left_refused h = past (refused_told _ h)
 
     pub left_end : count ≤ i → Ok (record { items = count; entries = used; total = total; next = at }) ≡ check_of (items form s count 0 0 0 start)
     left_end h = sym (ending (count - i) none) ∙ l.comes

@@ -13,7 +13,7 @@ use Rattle.log_item.proofs.Stores.{stored_then, stored_length, stored_same, stor
 use Rattle.list_writer.specs.declared.Measured.{Measured}
 use Rattle.list_writer.specs.Answers.{laid}
 use Rattle.log_batch.specs.Front.{block_bytes, body_offset, header_bytes, front_bytes, batch_encoded, measured_length, front_encoded, FrontWritten}
-use Rattle.log_batch.proofs.Planning.{empty_block, filled_block, block_empty, block_filled, block_small, front_length, Planned, planned}
+use Rattle.log_batch.proofs.Planning.{empty_block, filled_block, block_empty, block_filled, block_small, front_length, Planned, planned, plan_of}
 
 -- ---- header and block
 
@@ -62,9 +62,10 @@ module _ (content out : List ℕ) (len : ℕ) (room : Room out 0 (front_bytes le
 pub front_asked : (m : Result Measured Refusal) (items : ℕ) (content out : List ℕ) {n : ℕ} → measured_length m ≤ 4294967295 → Ok n ≡ batch_encoded m items content (length out)
     → (n ≡ 0 → ⊥) → (length content ≤ 2147483647) × (n < 72057594037927936) × Room out 0 (front_bytes n content)
 front_asked m items content out {n} small told h =
-    let k = planned m items content (length out) (sym told) h in
+    let p = planned items content (length out) m (sym told) h in
+    let k = p.2 in
     let block = block_small content in
-    let long : k.body.length ≤ 4294967295 = rw k.measured at small in
+    let long : p.0.length ≤ 4294967295 = rw p.1 at small in
     (k.few, omega (arith, k.few, k.size), record { fits = omega (arith, k.size, k.fits, front_length n content) })
 
 -- What the contract tells of a body that is not too long: the answer, and that header and block stand before where the body is to stand.
@@ -74,11 +75,14 @@ module _ {m : Result Measured Refusal} {items : ℕ} {content out : List ℕ} {r
   unfolding front_encoded
   begun_told = simp (le-leb (measured_length m) 4294967295 small) at begun.answer
 
-  module _ {n : ℕ} (e : r ≡ Ok n) (h : n ≡ 0 → ⊥) where
-    pub begun_plan : Planned m content (length out) n
-    begun_plan = planned m items content (length out) (sym begun_told ∙ e) h
+  module _ {n : ℕ} (e : r ≡ Ok n) (h : n ≡ 0 → ⊥) {b : Measured} (g : m ≡ Ok b) where
+    pub begun_plan : Planned b content (length out) n
+    begun_plan = plan_of items content (length out) g (sym begun_told ∙ e) h
 
-    pub front_stored : Stored out 0 (front_bytes n content) (n - begun_plan.body.length) mid
+    pub body_behind : b.length ≤ n
+    body_behind = omega (arith, begun_plan.size)
+
+    pub front_stored : Stored out 0 (front_bytes n content) (n - b.length) mid
     unfolding laid
     front_stored =
         let k = begun_plan in

@@ -1,14 +1,18 @@
--- What a whole batch comes to before it is written: the lengths of its parts, and what its answer tells.
+-- What a whole batch comes to before it is written: the lengths of its parts, what its answer tells, and where it is refused.
 -- Assumes nothing.
-use Rattle.std.proofs.Common.{◌≡◌, ℕ, ◌+◌, ◌*◌, ◌≤◌, Bool, true, false, cond, not, ◌&&◌, eqb, leb, List, [], ◌++◌, length, Result, Ok, Err, refl, ap, ◌∙◌, arith, length-append, eq-eqb, ne_eqb, eqb-true, leb-true}
+use Rattle.std.proofs.Common.{◌≡◌, ℕ, ◌+◌, ◌*◌, ◌<◌, ◌≤◌, Bool, true, false, cond, not, ◌&&◌, eqb, leb, ◌⊎◌, List, [], ◌++◌, length, Result, Ok, Err, refl, ap, ◌∙◌, inl, inr, arith, length-append, eq-eqb, ne_eqb, eqb-true, le-leb, leb-true}
+use mathlib.Core.Bool.{and-false}
 use lib.Bits.{xor_zero_r}
-use borrow.Author.Tests.{eqb-false}
+use borrow.Author.Tests.{lt-leb, eqb-false}
 use Rattle.words.specs.Word.{big_endian_bytes, little_endian_bytes}
 use Rattle.words.proofs.Words.{length_big, length_little}
 use Rattle.crc.specs.Crc.{crc_of}
+use Rattle.refusal.specs.declared.Reason.TheVariants.{BlockDiffers, OutputShort, OutputTooLong}
 use Rattle.refusal.specs.declared.Refusal.{Refusal}
 use Rattle.list_writer.specs.declared.Measured.{Measured}
 use Rattle.list_writer.specs.Bytes.{footed}
+use Rattle.list_writer.proofs.Heads.{else_fine}
+use Rattle.list_writer.specs.Refusing.{refused}
 use Rattle.log_batch.specs.Front.{block_bytes, body_offset, header_bytes, front_bytes, batch_encoded}
 
 -- ---- lengths
@@ -48,38 +52,62 @@ front_length len content =
 
 -- ---- the answer
 
--- What a check that may refuse lets through.
-pub passes_on : {A E : Type 0} (b : Bool) {x : Result A E} (r : E) {y : A} → cond b x (Err r) ≡ Ok y → (b ≡ true) × (x ≡ Ok y)
-passes_on true r e = (refl, e)
-passes_on false r e = cc
-
--- What an answer of some bytes tells.
-pub record Planned (m : Result Measured Refusal) (content : List ℕ) (room n : ℕ) : Type 0 where
-  pub body : Measured
-  pub measured : m ≡ Ok body
+-- What an answer of some bytes tells of the body's measure.
+pub record Planned (b : Measured) (content : List ℕ) (room n : ℕ) : Type 0 where
   pub few : length content ≤ 2147483647
-  pub total : body.total ≡ length content
-  pub size : n ≡ body_offset content + body.length
+  pub total : b.total ≡ length content
+  pub size : n ≡ body_offset content + b.length
   pub fits : n ≤ room
 
-pub planned : (m : Result Measured Refusal) (items : ℕ) (content : List ℕ) (room : ℕ) {n : ℕ} → batch_encoded m items content room ≡ Ok n → (n ≡ 0 → ⊥)
-    → Planned m content room n
-unfolding batch_encoded
-planned m items content room {n} told h = start (not (eqb items 0 && eqb (length content) 0)) m refl told
-  where
-    fine : (b : Measured) → m ≡ Ok b → batch_encoded (Ok b) 1 content room ≡ Ok n → Planned m content room n
-    fine b e f =
-        let size : ℕ = body_offset content + b.length in
-        let p = passes_on (leb b.total 2147483647) _ f in
-        let q = passes_on (eqb b.total (length content)) _ p.1 in
-        let r = passes_on (leb size room) _ q.1 in
-        let few = leb-true b.total 2147483647 p.0 in
-        let same = eqb-true b.total (length content) q.0 in
-        let fits = leb-true size room r.0 in
-        let long : size ≡ n = cc r.1 in
-        record { body = b; measured = e; few = omega arith; total = same; size = omega arith; fits = omega arith }
+module _ (items : ℕ) (content : List ℕ) (room : ℕ) {n : ℕ} where
+  planned_body : (b : Measured) → batch_encoded (Ok b) 1 content room ≡ Ok n → Planned b content room n
+  unfolding batch_encoded
+  planned_body b e =
+      let size : ℕ = body_offset content + b.length in
+      let p = else_fine (leb b.total 2147483647) _ _ e in
+      let q = else_fine (eqb b.total (length content)) _ _ p.1 in
+      let r = else_fine (leb size room) _ _ q.1 in
+      let few = leb-true b.total 2147483647 p.0 in
+      let same = eqb-true b.total (length content) q.0 in
+      let fits = leb-true size room r.0 in
+      let long : size ≡ n = cc r.1 in
+      record { few = omega arith; total = same; size = omega arith; fits = omega arith }
 
-    start : (b : Bool) (k : Result Measured Refusal) → m ≡ k → cond b (batch_encoded k 1 content room) (Ok 0) ≡ Ok n → Planned m content room n
-    start true (Ok b) e f = fine b e f
-    start true (Err r) e f = cc
-    start false k e f = let z : 0 ≡ n = cc in absurd (h (omega arith))
+  pub planned : (m : Result Measured Refusal) → batch_encoded m items content room ≡ Ok n → (n ≡ 0 → ⊥)
+      → (b : Measured) × (m ≡ Ok b) × Planned b content room n
+  unfolding batch_encoded
+  planned m told h = go (not (eqb items 0 && eqb (length content) 0)) m refl told
+    where
+      go : (c : Bool) (k : Result Measured Refusal) → m ≡ k → cond c (batch_encoded k 1 content room) (Ok 0) ≡ Ok n
+          → (b : Measured) × (m ≡ Ok b) × Planned b content room n
+      go true (Ok b) e f = (b, e, planned_body b f)
+      go true (Err r) e f = cc
+      go false k e f = let z : 0 ≡ n = cc in absurd (h (omega arith))
+
+  pub plan_of : {m : Result Measured Refusal} {b : Measured} → m ≡ Ok b → batch_encoded m items content room ≡ Ok n → (n ≡ 0 → ⊥) → Planned b content room n
+  plan_of {m} {b} e told h = let p = planned m told h in let same : p.0 ≡ b = cc (p.1) in rw same at p.2
+
+-- ---- where it is refused
+
+something : (items content : ℕ) → (items ≡ 0 → ⊥) ⊎ (content ≡ 0 → ⊥) → (eqb items 0 && eqb content 0) ≡ false
+something items content (inl h) = rw (ne_eqb items 0 h)
+something items content (inr h) = rw (ne_eqb content 0 h) (and-false (eqb items 0))
+
+module _ (b : Measured) (items : ℕ) (content : List ℕ) (room : ℕ) (some : (items ≡ 0 → ⊥) ⊎ (length content ≡ 0 → ⊥)) where
+  pub refused_body : (r : Refusal) → batch_encoded (Err r) items content room ≡ Err r
+  unfolding batch_encoded
+  refused_body r = rw (something items (length content) some)
+
+  pub refused_22 : 2147483647 < b.total → batch_encoded (Ok b) items content room ≡ refused OutputTooLong 0
+  unfolding batch_encoded
+  refused_22 h = rw (something items (length content) some, lt-leb b.total 2147483647 h)
+
+  module _ (few : b.total ≤ 2147483647) where
+    pub refused_20 : (b.total ≡ length content → ⊥) → batch_encoded (Ok b) items content room ≡ refused BlockDiffers 0
+    unfolding batch_encoded
+    refused_20 h = rw (something items (length content) some, le-leb b.total 2147483647 few, ne_eqb b.total (length content) h)
+
+    pub refused_21 : b.total ≡ length content → room < body_offset content + b.length → batch_encoded (Ok b) items content room ≡ refused OutputShort 0
+    unfolding batch_encoded
+    refused_21 same h =
+        rw (something items (length content) some, le-leb b.total 2147483647 few, eq-eqb b.total (length content) same, lt-leb _ _ h)

@@ -1,16 +1,17 @@
 -- What a right seal is, and what a seal says of its body's reading.
 -- Assumes nothing.
-use Rattle.std.proofs.Common.{◌≡◌, ℕ, ◌+◌, ◌<◌, ◌≤◌, eqb, ltb, List, ◌++◌, length, drop, Some, Ok, Err, refl, ap, arith, length-append, length-drop, take_all, take_at, drop_at, ltb-true, lt-ltb, eq-eqb, eqb-true, ne_eqb, le-leb}
+use Rattle.std.proofs.Common.{◌≡◌, ℕ, ◌+◌, ◌<◌, ◌≤◌, eqb, ltb, List, ◌++◌, length, drop, Some, Ok, Err, refl, ap, arith, length-append, length-drop, take_all, take_at, drop_at, ltb-true, le-ltb, lt-ltb, eq-eqb, eqb-true, ne_eqb, le-leb}
 use lib.Bits.{bit_xor}
 use Rattle.refusal.specs.First.{fine}
 use Rattle.refusal.specs.declared.Reason.{Reason}
+use Rattle.refusal.specs.declared.Reason.TheVariants.{ChecksumWrong, NoContent}
 use Rattle.words.specs.Word.{little_endian, piece, read_u32}
 use Rattle.crc.specs.Crc.{crc_of}
 use Rattle.log_item.specs.declared.Form.TheVariants.{Any}
 use Rattle.log_batch.specs.Seal.{sealed_length, sealed_part, footer, seal_check, block_check}
 use Rattle.log_batch.specs.Reading.{rejected, read_items}
 use Rattle.log_batch.specs.Body.{read_body}
-use Rattle.log_batch.proofs.Planning.{passes_on}
+use Rattle.list_writer.proofs.Heads.{else_fine}
 
 -- The word at the last four bytes is the footer.
 pub footer_read : (b : List ℕ) → 4 < length b → read_u32 b (sealed_length b) ≡ Some (piece (footer b) (sealed_length b + 4))
@@ -19,6 +20,17 @@ footer_read b long =
     let fits : sealed_length b + 4 ≤ length b = omega arith in
     let four : length (drop (sealed_length b) b) ≤ 4 = omega (arith, length-drop (sealed_length b) b) in
     rw (le-leb _ _ fits, take_all 4 (drop (sealed_length b) b) four)
+
+-- ---- where a seal is refused
+
+pub seal_short : (b : List ℕ) (signature : ℕ) → length b ≤ 4 → seal_check b signature ≡ Err NoContent
+unfolding seal_check
+seal_short b signature h = rw (le-ltb _ _ h)
+
+pub seal_wrong : (b : List ℕ) (signature : ℕ) → 4 < length b → (footer b ≡ bit_xor (crc_of (sealed_part b)) signature → ⊥)
+    → seal_check b signature ≡ Err ChecksumWrong
+unfolding seal_check
+seal_wrong b signature long other = rw (lt-ltb _ _ long, ne_eqb _ _ other)
 
 -- ---- a right seal
 
@@ -31,8 +43,8 @@ pub record Sealed (b : List ℕ) (signature : ℕ) : Type 0 where
 pub sealed : (b : List ℕ) (signature : ℕ) → seal_check b signature ≡ fine → Sealed b signature
 unfolding seal_check
 sealed b signature e =
-    let p = passes_on (ltb 4 (length b)) _ e in
-    let q = passes_on (eqb (footer b) (bit_xor (crc_of (sealed_part b)) signature)) _ p.1 in
+    let p = else_fine (ltb 4 (length b)) _ _ e in
+    let q = else_fine (eqb (footer b) (bit_xor (crc_of (sealed_part b)) signature)) _ _ p.1 in
     record { long = ltb-true _ _ p.0; right = eqb-true _ _ q.0 }
 
 -- A seal that is not broken has more than four bytes.

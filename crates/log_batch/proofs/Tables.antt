@@ -1,6 +1,6 @@
 -- The table of each answer: of a refusal, and of what the loop has filled.
 -- Assumes nothing.
-use Rattle.std.proofs.Common.{◌≡◌, ℕ, ◌≤◌, List, take, Option, Some, None, sym, arith}
+use Rattle.std.proofs.Common.{◌≡◌, ℕ, ◌≤◌, List, take, Option, Some, None, sym, ◌∙◌, arith}
 use Rattle.refusal.specs.declared.Reason.{Reason}
 use lib.Seq.{take-append_seam}
 use Rattle.refusal.specs.declared.Refusal.{Refusal}
@@ -46,12 +46,13 @@ in_table body block xs rows u q = (take-append_seam xs _, take-append_seam rows 
 
 -- The table that the loop leaves is that of the answer.
 pub filled : (body : Span) {block nowhere : Span} {s : List ℕ} {k : ℕ} {xs : List LogItem} {rows : List EntryIndex} {none : Option Refusal} {i j p t n index : ℕ} {a : Answer}
-    → block ≡ nowhere → none ≡ None → Filling s k xs rows i j p t n index → a ≡ accepted (take i xs) (take j rows) t p
-    → table body block xs i rows j t p none ≡ table_of body nowhere a
+    → block ≡ nowhere → none ≡ None → Filling s k xs rows i j p t n index → k ≤ i → a ≡ accepted (take i xs) (take j rows) t p
+    → table body block xs k rows j t p none ≡ table_of body nowhere a
 unfolding table_of
-filled body {block} {nowhere} {s} {k} {xs} {rows} {none} {i} {j} {p} {t} {n} b unrefused f e =
+filled body {block} {nowhere} {s} {k} {xs} {rows} {none} {i} {j} {p} {t} {n} b unrefused f all e =
+    let same : k ≡ i = omega (arith, f.most) in
     let few : i ≤ 256 = omega (arith, f.most, f.few) in
     let room : j ≤ 1024 = omega (arith, f.room) in
     rw (e, b)
-    (same_table body nowhere t p (rows_pad f.filled_items few) (sym (rows_length f.filled_items few)) (rows_pad f.filled_rows room)
+    (same_table body nowhere t p (rows_pad f.filled_items few) (same ∙ sym (rows_length f.filled_items few)) (rows_pad f.filled_rows room)
     (sym (rows_length f.filled_rows room)) unrefused)
