@@ -3,6 +3,7 @@
 use Rattle.std.proofs.Common.{◌≡◌, ℕ, ◌+◌, ◌≤◌, Bool, true, false, not, ltb, leb, List, ◌∷◌, ◌++◌, length, take, drop, Result, Ok, Err, sym, refl, ◌∙◌, arith, ltb-false, ne_eqb, le-leb, leb-true}
 use borrow.Author.Tests.{not-true}
 use Rattle.refusal.specs.First.{fine}
+use Rattle.refusal.specs.declared.Reason.TheVariants.{OutputShort}
 use Rattle.refusal.specs.declared.Refusal.{Refusal}
 use Rattle.log_item.specs.Entries.{entries_of}
 use Rattle.log_item.specs.declared.LogItem.{LogItem}
@@ -52,8 +53,8 @@ module _ (s : List ℕ) (checked : Bool) (xs : List LogItem) (ns : List ℕ) (si
           let some : m.length ≡ 0 → ⊥ = λ z. omega (arith, f.long) in
           let fit : at + length (body_bytes s xs ns signature) ≤ length out = omega (arith, leb-true (at + m.length) (length out) h) in
           writes (rw whole k) f.told (w.written ∙ (rw (k, ne_eqb m.length 0 some, le-leb _ (length out) fit)))
-      room m e false h = left (w.answer ∙ (rw (e, h)))
+      room m e false h = left {x = record { reason = OutputShort; item = 0 }} (w.answer ∙ (rw (e, h)))
 
       go : (m : Result Measured Refusal) → measure_of s checked xs ns ≡ m → Encodes r later
       go (Ok m) e = room m e (leb (at + m.length) (length out)) refl
-      go (Err x) e = left (w.answer ∙ (rw e))
+      go (Err x) e = left {x = x} (w.answer ∙ (rw e))

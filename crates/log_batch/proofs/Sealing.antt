@@ -1,6 +1,6 @@
 -- What a right seal is, and what a seal says of its body's reading.
 -- Assumes nothing.
-use Rattle.std.proofs.Common.{◌≡◌, ℕ, ◌+◌, ◌<◌, ◌≤◌, eqb, ltb, List, ◌++◌, length, drop, Some, Ok, Err, refl, ap, arith, length-append, length-drop, take_all, take_at, drop_at, ltb-true, le-ltb, lt-ltb, eq-eqb, eqb-true, ne_eqb, le-leb}
+use Rattle.std.proofs.Common.{◌≡◌, ℕ, ◌+◌, ◌<◌, ◌≤◌, eqb, ltb, List, ◌++◌, length, drop, Some, Err, ap, arith, length-append, length-drop, take_all, take_at, drop_at, ltb-true, le-ltb, lt-ltb, eq-eqb, eqb-true, ne_eqb, le-leb}
 use lib.Bits.{bit_xor}
 use Rattle.refusal.specs.First.{fine}
 use Rattle.refusal.specs.declared.Reason.{Reason}

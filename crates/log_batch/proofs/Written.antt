@@ -1,6 +1,6 @@
 -- Writing a whole batch: the body behind header and block, and what the contract then tells.
 -- Assumes nothing.
-use Rattle.std.proofs.Common.{◌≡◌, ℕ, ◌+◌, ◌-◌, ◌^◌, ◌<◌, ◌≤◌, Bool, true, false, eqb, leb, List, ◌++◌, length, take, drop, Result, Ok, Err, sym, refl, ap, ◌∙◌, append_assoc, arith, length-append, length-take-le, take_at, drop_at, ne_eqb, eq-eqb, eqb-true, le-leb, leb-true}
+use Rattle.std.proofs.Common.{◌≡◌, ℕ, ◌+◌, ◌-◌, ◌^◌, ◌<◌, ◌≤◌, Bool, List, ◌++◌, length, take, drop, Result, Ok, Err, sym, refl, ap, ◌∙◌, append_assoc, arith, length-append, length-take-le, take_at, drop_at, ne_eqb, eq-eqb, le-leb}
 use lib.Seq.{sets-eq}
 use Rattle.refusal.specs.declared.Refusal.{Refusal}
 use Rattle.log_item.specs.declared.LogItem.{LogItem}
@@ -8,11 +8,11 @@ use Rattle.log_item.specs.Private.{Stored}
 use Rattle.words.specs.Write.{placed}
 use Rattle.log_item.proofs.Stores.{stored_then, stored_length, stored_same, stored_placed}
 use Rattle.list_writer.specs.declared.Measured.{Measured}
-use Rattle.list_writer.specs.Answers.{measure_of, encoded_in, encoded_of, laid, MeasuredWritten}
+use Rattle.list_writer.specs.Answers.{measure_of, encoded_of, laid, MeasuredWritten}
 use Rattle.list_writer.specs.Bytes.{list_bytes, body_bytes}
 use Rattle.list_writer.specs.Refusing.{list_verdict}
 use Rattle.list_writer.proofs.Measuring.{sized_where}
-use Rattle.list_writer.proofs.Bodies.{accepted, body_length, placing_fits, placing_told}
+use Rattle.list_writer.proofs.Bodies.{accepted, body_length, placing_told}
 use Rattle.log_batch.specs.Front.{body_offset, front_bytes, batch_encoded, measured_length, written_length, FrontWritten}
 use Rattle.log_batch.proofs.Planning.{Planned, block_small, front_length, planned}
 use Rattle.log_batch.proofs.Fronts.{begun_told, begun_plan, front_stored}
@@ -40,20 +40,20 @@ module _ (s : List ℕ) (checked : Bool) (xs : List LogItem) (ns : List ℕ) {b 
 
 -- So are those of a list, for any measure that is the list's own unless it is refused.
 pub own_sized : {m : Result Measured Refusal} (s : List ℕ) (checked : Bool) (xs : List LogItem) (ns : List ℕ) (signature : ℕ)
-    → ({b : Measured} → m ≡ Ok b → measure_of s checked xs ns ≡ Ok b) → Sized m (body_bytes s xs ns signature)
+    → ((b : Measured) → m ≡ Ok b → measure_of s checked xs ns ≡ Ok b) → Sized m (body_bytes s xs ns signature)
 own_sized {m} s checked xs ns signature own =
     record {
       small = go m own;
-      long = λ e. body_length signature (accepted s checked xs ns _ (sym (own e)));
-      some = λ e z. body_some s checked xs ns (own e) z;
+      long = λ e. body_length signature (accepted s checked xs ns _ (sym (own _ e)));
+      some = λ e z. body_some s checked xs ns (own _ e) z;
     }
   where
-    go : (k : Result Measured Refusal) → ({b : Measured} → k ≡ Ok b → measure_of s checked xs ns ≡ Ok b) → measured_length k ≤ 4294967295
-    go (Ok b) f = body_small s checked xs ns (f refl)
+    go : (k : Result Measured Refusal) → ((b : Measured) → k ≡ Ok b → measure_of s checked xs ns ≡ Ok b) → measured_length k ≤ 4294967295
+    go (Ok b) f = body_small s checked xs ns (f b refl)
     go (Err r) f = omega arith
 
 pub list_sized : (s : List ℕ) (checked : Bool) (xs : List LogItem) (ns : List ℕ) (signature : ℕ) → Sized (measure_of s checked xs ns) (body_bytes s xs ns signature)
-list_sized s checked xs ns signature = own_sized s checked xs ns signature (λ e. e)
+list_sized s checked xs ns signature = own_sized s checked xs ns signature (λ b e. e)
 
 -- An answer of no bytes leaves the buffer as it was.
 pub nothing_laid : (r : Result ℕ Refusal) → written_length r ≡ 0 → (out bs : List ℕ) (at : ℕ) → laid r out at bs ≡ out
@@ -72,6 +72,10 @@ module _ {m k : Result Measured Refusal} (same : m ≡ k) {body : List ℕ} (siz
   pub batch_left : written_length r ≡ 0 → BatchWritten k items content body out r mid
   batch_left h =
       record { answer = answers; written = begun.front ∙ nothing_laid r h out _ 0 ∙ sym (nothing_laid r h out (framed content body) 0) }
+
+  -- Where some bytes are answered the body is not refused.
+  pub never_refused : {n : ℕ} → r ≡ Ok n → (n ≡ 0 → ⊥) → {x : Refusal} → m ≡ Err x → ⊥
+  never_refused e h g = let p = planned items content (length out) m (sym (begun_told begun begun_small) ∙ e) h in let f = p.1 in cc
 
   module _ {n : ℕ} (e : r ≡ Ok n) (h : n ≡ 0 → ⊥) {b : Measured} (g : m ≡ Ok b) where
     plan : Planned b content (length out) n

@@ -197,7 +197,9 @@ fn encode_batch(
     let len = begin(m, count, content, out)?;
     if len != 0 {
         let at = len - m?.length;
-        list_writer::encode(items, count, entries, rows, store, signature, checked, out, at)?;
+        list_writer::encode(
+            items, count, entries, rows, store, signature, checked, out, at,
+        )?;
     }
     Ok(len)
 }

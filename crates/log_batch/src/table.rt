@@ -156,6 +156,8 @@ impl LogItemBatch {
         let count = self.item_count;
         let entries = self.entries;
         let rows = self.entry_count;
-        list_writer::encode(items, count, entries, rows, store, signature, checked, out, 0)
+        list_writer::encode(
+            items, count, entries, rows, store, signature, checked, out, 0,
+        )
     }
 }
