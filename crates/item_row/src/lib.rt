@@ -5,7 +5,7 @@
 ghost use Rattle.std.specs.Prelude.{◌≡◌, ℕ, Result, Ok, get_or};
 ghost use Rattle.log_item.specs.declared.LogItem.{LogItem};
 ghost use Rattle.refusal.specs.declared.Reason.{Reason};
-ghost use Rattle.item_row.specs.Row.{span_of, command_row, key_row, item_of_row};
+ghost use Rattle.item_row.specs.Row.{span_of, command_row, key_row, item_of_row, item_words, entry_words};
 
 use log_item::{Command, EntryIndex, EntryIndexes, KeyValue, LogItem, LogItemContent, Op, Span};
 use refusal::Reason;
@@ -118,4 +118,44 @@ fn span(at: u64, len: u64) -> Span
         at: at as usize,
         len: len as usize,
     }
+}
+
+// The seven words of an item.
+#[tactic(auto, unfolding(crate::specs::Row::item_words, crate::specs::Row::content_words, crate::specs::Row::command_words, crate::specs::Row::key_words))]
+pub fn words_of(item: LogItem) -> [u64; 7]
+    ensures { result ≡ item_words item }
+{
+    let group = item.raft_group_id;
+    match item.content {
+        LogItemContent::EntryIndexes(e) => [group, 1, 0, e.count as u64, e.first_index, 0, 0],
+        LogItemContent::Command(Command::Clean) => [group, 2, 1, 0, 0, 0, 0],
+        LogItemContent::Command(Command::Compact { index }) => [group, 2, 2, index, 0, 0, 0],
+        LogItemContent::Kv(kv) => {
+            let (kind, value) = match kv.op {
+                Op::Put { value } => (1, value),
+                Op::Del => (2, Span { at: 0, len: 0 }),
+            };
+            [
+                group,
+                3,
+                kind,
+                kv.key.at as u64,
+                kv.key.len as u64,
+                value.at as u64,
+                value.len as u64,
+            ]
+        }
+    }
+}
+
+// The three words of an entry.
+#[tactic(auto, unfolding(crate::specs::Row::entry_words))]
+pub fn entry_words_of(row: EntryIndex) -> [u64; 3]
+    ensures { result ≡ entry_words row }
+{
+    [
+        row.index,
+        u64::from(row.entry_offset),
+        u64::from(row.entry_len),
+    ]
 }
