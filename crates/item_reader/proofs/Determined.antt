@@ -1,11 +1,11 @@
 -- No second answer: two results, and two later readers, that meet one contract are equal.
 -- Assumes nothing.
-use Rattle.std.proofs.Common.{◌≡◌, sym, refl, ◌∙◌}
+use Rattle.std.proofs.Common.{◌≡◌, sym, ◌∙◌}
 use Rattle.one_answer.specs.OneAnswer.{OneAnswer}
-use Rattle.one_answer.specs.ByHand.{OneAnswerByHand}
-use Rattle.item_reader.specs.Reader.{opened, step_from, after_call}
-use Rattle.item_reader.specs.contracts.ItemReader.open as open_fn
-use Rattle.item_reader.specs.contracts.ItemReader.next as next_fn
+use Rattle.item_reader.proofs.ItemReader.open.Kinds as open_kinds
+use Rattle.item_reader.proofs.ItemReader.open.Reads as open_reads
+use Rattle.item_reader.proofs.ItemReader.next.Kinds as next_kinds
+use Rattle.item_reader.proofs.ItemReader.next.Reads as next_reads
 use Rattle.item_reader.proofs.Cursor.start.Kinds as start_kinds
 use Rattle.item_reader.proofs.Cursor.start.Reads as start_reads
 use Rattle.item_reader.proofs.Cursor.step.Kinds as step_kinds
@@ -21,19 +21,11 @@ start κs a x y s t p q = p ∙ sym q
 pub step : OneAnswer 1 step_kinds.ps step_kinds.r step_reads.Post (λ κs x y s t. x ≡ y)
 step κs a x y s t p q = p ∙ sym q
 
-pub opening : OneAnswerByHand open_fn.ended (λ M 𝓤 𝓛. open_fn.clauses 𝓛) (λ κs x y s t. x ≡ y)
-opening = record {
-  Post = λ κs a x s. x ≡ opened a.0 a.1.0;
-  says = λ 𝓛 mem run κs a g x s. refl;
-  one = λ κs a x y s t p q. p ∙ sym q;
-}
+pub opening : OneAnswer 1 open_kinds.ps open_kinds.r open_reads.Post (λ κs x y s t. x ≡ y)
+opening κs a x y s t p q = p ∙ sym q
 
-pub next : OneAnswerByHand next_fn.ended (λ M 𝓤 𝓛. next_fn.clauses 𝓛) (λ κs x y s t. (x ≡ y) × (s.0.now ≡ t.0.now))
-next = record {
-  Post = λ κs a x s. (x ≡ (step_from a.0.now).answer) × (s.0.now ≡ after_call a.0.now);
-  says = λ 𝓛 mem run κs a g x s. refl;
-  one = λ κs a x y s t p q. (p.0 ∙ sym q.0, p.1 ∙ sym q.1);
-}
+pub next : OneAnswer 2 next_kinds.ps next_kinds.r next_reads.Post (λ κs x y s t. (x ≡ y) × (s.0.now ≡ t.0.now))
+next κs a x y s t p q = (p.0 ∙ sym q.0, p.1 ∙ sym q.1)
 
 pub nth : OneAnswer 1 nth_kinds.ps nth_kinds.r nth_reads.Post (λ κs x y s t. x ≡ y)
 nth κs a x y s t p q = p ∙ sym q

@@ -1,33 +1,26 @@
--- What a step over an item comes to: a law for each way out of the code.
+-- What a step comes to: a law for each way out of it that opened readers take.
 -- Assumes nothing.
-use Rattle.std.proofs.Common.{◌≡◌, ℕ, ◌+◌, ◌-◌, ◌<◌, ◌≤◌, List, length, take, ◌∙◌, le-ltb, lt-ltb}
-use Rattle.refusal.proofs.First.{other_answer}
+use Rattle.std.proofs.Common.{◌≡◌, ℕ, ◌<◌, ◌≤◌, List, Option, Some, None, Ok, Err, le-ltb, lt-ltb}
 use Rattle.refusal.specs.declared.Refusal.{Refusal}
-use Rattle.log_item.specs.Got.{got, refused}
-use Rattle.log_item.specs.Answers.{Counted, counted_item}
+use Rattle.log_item.specs.Got.{got}
+use Rattle.log_item.specs.Answers.{counted_item}
 use Rattle.log_item.specs.declared.Form.TheVariants.{Any}
-use Rattle.item_reader.specs.declared.Next.{Next}
-use Rattle.item_reader.specs.declared.Next.TheVariants as next
-use Rattle.item_reader.specs.declared.Step.{Step}
-use Rattle.item_reader.specs.Steps.{handed_out, stayed, step_of}
+use Rattle.log_item.specs.declared.ItemRead.{ItemRead}
+use Rattle.log_batch.specs.Seal.{sealed_part}
+use Rattle.item_reader.specs.declared.Cursor.{Cursor}
+use Rattle.item_reader.specs.Steps.{stayed, step_over, stepped}
 
-module _ (body : List ℕ) (at total used item count : ℕ) (refusal : Refusal) where
-  pub step_refused : {s : Step} → (refusal.number ≡ 0 → ⊥) → s ≡ stayed at total used item (next.Refused refusal) → s ≡ step_of body at total used item count refusal
-  unfolding step_of
-  step_refused h e = e ∙ other_answer refusal.number _ _ h
+module _ (body : List ℕ) (c : Cursor) where
+  pub step_refused : {r : Refusal} → c.refusal ≡ Some r → stepped body c ≡ stayed c (Err r)
+  unfolding stepped
+  step_refused e = rw e
 
-  module _ (none : refusal.number ≡ 0) where
-    pub step_end : {s : Step} → count ≤ item → s ≡ stayed at total used item next.End → s ≡ step_of body at total used item count refusal
-    unfolding step_of
-    step_end h e = rw (none, le-ltb _ _ h) e
+  module _ (none : c.refusal ≡ None) where
+    pub step_end : c.count ≤ c.item → stepped body c ≡ stayed c (Ok None)
+    unfolding stepped
+    step_end h = rw (none, le-ltb _ _ h)
 
-    module _ (more : item < count) {n : ℕ} (k : n ≡ length body - 4) where
-      pub step_over_lem : {f : Counted} {q : ℕ} → counted_item Any (take n body) used total at ≡ got f q → {w : Next} → w ≡ handed_out f.item f.tails_at total
-          → record { at = q; total = f.total; used = f.used; item = item + 1; answer = w } ≡ step_of body at total used item count refusal
-      unfolding step_of
-      step_over_lem e h = rw (none, lt-ltb _ _ more, ← k, e, h)
-
-      pub step_broken : {m : ℕ} {s : Step} → counted_item Any (take n body) used total at ≡ refused m
-          → s ≡ stayed at total used item (next.Refused (record { number = m; item = item })) → s ≡ step_of body at total used item count refusal
-      unfolding step_of
-      step_broken e h = rw (none, lt-ltb _ _ more, ← k, e) h
+    pub step_item : c.item < c.count → {x : ItemRead} {q : ℕ} → counted_item Any (sealed_part body) c.used c.total c.at ≡ got x q
+        → stepped body c ≡ step_over c (got x q)
+    unfolding stepped
+    step_item h e = rw (none, lt-ltb _ _ h, e)

@@ -1,9 +1,4 @@
-pub mod Walking
-pub mod RawIn
-pub mod Lent
-pub mod RowLaws
 pub mod ItemLaws
-pub mod OpenLaws
 pub mod Opened
 pub mod Through
 pub mod Theorems

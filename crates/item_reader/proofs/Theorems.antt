@@ -1,6 +1,7 @@
 -- What document 01 says of the stepping reader, proved of the definitions that the contracts cite.
 -- Assumes nothing.
-use Rattle.std.proofs.Common.{◌≡◌, ℕ, zero, suc, ◌<◌, ◌≤◌, List, length, get_or, take, refl, ap, ◌∙◌, zero-add, arith, Bor}
+use Rattle.std.proofs.Common.{◌≡◌, ℕ, zero, suc, ◌<◌, ◌≤◌, List, Some, None, Ok, Err, length, get_or, take, refl, ap, ◌∙◌, zero-add, arith, Bor}
+use Rattle.refusal.specs.declared.Reason.{Reason}
 use Rattle.log_item.specs.declared.Span.{Span}
 use Rattle.log_item.specs.declared.LogItem.{LogItem}
 use Rattle.log_item.specs.declared.EntryIndex.{EntryIndex}
@@ -13,13 +14,11 @@ use Rattle.log_batch.proofs.Tables.{in_table}
 use Rattle.item_reader.specs.declared.Cursor.{Cursor}
 use Rattle.item_reader.specs.declared.EntryRows.{EntryRows}
 use Rattle.item_reader.specs.declared.ItemReader.{ItemReader}
-use Rattle.item_reader.specs.declared.Next.TheVariants as next
 use Rattle.item_reader.specs.Cursor.{at_first, after_count, started, after_steps, nth_step}
 use Rattle.item_reader.specs.Reader.{reader_at, opened, step_from, after_call, after_calls, nth_of}
 use Rattle.item_reader.specs.Stepping.{StepsThrough}
 use Rattle.item_reader.specs.Stepping as go
 use Rattle.item_reader.proofs.Opened.{in_body, opening_good, opening_bad}
-use Rattle.log_batch.proofs.NonZero.{refusal_some}
 use Rattle.item_reader.proofs.Through as through
 
 module _ (body : Bor (List ℕ)) (signature : ℕ) where
@@ -29,14 +28,15 @@ module _ (body : Bor (List ℕ)) (signature : ℕ) where
       → StepsThrough (opened body signature) xs rows
   same_items {xs} e =
       rw (opening_good body.now signature e)
-      (through.steps_through (length xs) (reader_at body (at_first (after_count (sealed_part body.now)) (length xs) 0 0)) refl
+      (through.steps_through (length xs) (reader_at body (at_first (after_count (sealed_part body.now)) (length xs) None)) refl
       (zero-add (length xs)) (in_body body.now signature e))
 
   -- Or none and the same refusal, at every call.
-  pub same_refusal : {n i : ℕ} → read_body body.now signature ≡ rejected n i → (k : ℕ) → nth_of (opened body signature) k ≡ next.Refused (record { number = n; item = i })
-  same_refusal {n} {i} e k =
+  pub same_refusal : {r : Reason} {i : ℕ} → read_body body.now signature ≡ rejected r i → (k : ℕ)
+      → nth_of (opened body signature) k ≡ Err (record { reason = r; item = i })
+  same_refusal {r} {i} e k =
       rw (opening_bad body.now signature e)
-      (through.at_refusal (reader_at body (at_first 0 0 n i)) (refusal_some body.now signature e) k)
+      (through.at_refusal (reader_at body (at_first 0 0 (Some (record { reason = r; item = i })))) refl k)
 
   -- The items and rows are those of the table that the plain reading fills.
   pub same_table : (place block : Span) {xs : List LogItem} {rows : List EntryIndex} {u q : ℕ} → read_body body.now signature ≡ accepted xs rows u q
@@ -46,14 +46,14 @@ module _ (body : Bor (List ℕ)) (signature : ℕ) where
 
 -- Call number k, counted from 0, hands out item number k.
 pub item_by_number : {r : ItemReader} {xs : List LogItem} {rows : List EntryIndex} → StepsThrough r xs rows → (k : ℕ) → k < length xs
-    → (p : EntryRows) × (nth_of r k ≡ next.Item (get_or xs k blank_item) p)
+    → (p : EntryRows) × (nth_of r k ≡ Ok (Some (record { item = get_or xs k blank_item; rows = p })))
 unfolding after_calls
 item_by_number (go.StepsThrough.end f) k h = absurd (omega arith)
 item_by_number (go.StepsThrough.then {p = p} a g s) zero h = (p, a)
 item_by_number {r} (go.StepsThrough.then a g s) (suc k) h = let n = item_by_number s k (omega arith) in (n.0, through.afterwards r k ∙ n.1)
 
 -- Each call after the last item answers the end.
-pub end_after : {r : ItemReader} {xs : List LogItem} {rows : List EntryIndex} → StepsThrough r xs rows → (k : ℕ) → length xs ≤ k → nth_of r k ≡ next.End
+pub end_after : {r : ItemReader} {xs : List LogItem} {rows : List EntryIndex} → StepsThrough r xs rows → (k : ℕ) → length xs ≤ k → nth_of r k ≡ Ok None
 end_after (go.StepsThrough.end f) k h = f k
 end_after (go.StepsThrough.then a g s) zero h = absurd (omega arith)
 end_after {r} (go.StepsThrough.then a g s) (suc k) h = through.afterwards r k ∙ end_after s k (omega arith)
@@ -73,14 +73,14 @@ same_steps body signature k = ap (λ (r : ItemReader). (step_from r).answer) (st
 module _ (body : Bor (List ℕ)) (signature : ℕ) where
   -- So step number k, counted from 0, hands out item number k of the plain reading, and each step after the last the end.
   pub cursor_items : {xs : List LogItem} {rows : List EntryIndex} {u q : ℕ} → read_body body.now signature ≡ accepted xs rows u q → (k : ℕ) → k < length xs
-      → (p : EntryRows) × (nth_step body.now (started body.now signature) k ≡ next.Item (get_or xs k blank_item) p)
+      → (p : EntryRows) × (nth_step body.now (started body.now signature) k ≡ Ok (Some (record { item = get_or xs k blank_item; rows = p })))
   cursor_items e k h = let n = item_by_number (same_items body signature e) k h in (n.0, same_steps body signature k ∙ n.1)
 
   pub cursor_end : {xs : List LogItem} {rows : List EntryIndex} {u q : ℕ} → read_body body.now signature ≡ accepted xs rows u q → (k : ℕ) → length xs ≤ k
-      → nth_step body.now (started body.now signature) k ≡ next.End
+      → nth_step body.now (started body.now signature) k ≡ Ok None
   cursor_end e k h = same_steps body signature k ∙ end_after (same_items body signature e) k h
 
   -- Or, at every step, the same refusal.
-  pub cursor_refusal : {n i : ℕ} → read_body body.now signature ≡ rejected n i → (k : ℕ)
-      → nth_step body.now (started body.now signature) k ≡ next.Refused (record { number = n; item = i })
+  pub cursor_refusal : {r : Reason} {i : ℕ} → read_body body.now signature ≡ rejected r i → (k : ℕ)
+      → nth_step body.now (started body.now signature) k ≡ Err (record { reason = r; item = i })
   cursor_refusal e k = same_steps body signature k ∙ same_refusal body signature e k

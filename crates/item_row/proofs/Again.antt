@@ -10,10 +10,10 @@ use Rattle.log_item.specs.declared.Op.TheVariants.{Put, Del}
 use Rattle.log_item.specs.declared.LogItemContent.{LogItemContent}
 use Rattle.log_item.specs.declared.LogItemContent.TheVariants as contents
 use Rattle.log_item.specs.declared.LogItem.{LogItem}
-use Rattle.item_row.specs.declared.ItemRowRead.TheVariants.{Item}
+use Rattle.std.specs.Prelude.{Ok}
 use Rattle.item_row.specs.Row.{item_of, command_row, key_row, row_item, item_of_row, command_words, key_words, content_words, item_words}
 
-pub spells_again : (x : LogItem) → item_of_row (item_words x) 0 ≡ Item x
+pub spells_again : (x : LogItem) → item_of_row (item_words x) 0 ≡ Ok x
 unfolding item_of_row row_item command_row key_row item_words content_words command_words key_words
 spells_again x = go x.content
   where

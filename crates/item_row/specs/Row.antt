@@ -1,6 +1,6 @@
 -- How an item stands in seven words: group, type, and five words by type and kind. The layout is that of raft_log.h. An entry stands in three.
 -- Assumes nothing.
-use Rattle.std.specs.Prelude.{ℕ, ◌+◌, ◌*◌, ◌/◌, cond, eqb, length, get_or}
+use Rattle.std.specs.Prelude.{ℕ, ◌+◌, ◌*◌, ◌/◌, Result, Ok, Err, cond, eqb, length, get_or}
 use mathlib.Core.List.{List, [], ◌∷◌, flat_map}
 use Rattle.log_item.specs.declared.Span.{Span}
 use Rattle.log_item.specs.declared.Command.{Command}
@@ -11,8 +11,7 @@ use Rattle.log_item.specs.declared.LogItemContent.{LogItemContent}
 use Rattle.log_item.specs.declared.LogItemContent.TheVariants as contents
 use Rattle.log_item.specs.declared.LogItem.{LogItem}
 use Rattle.log_item.specs.declared.EntryIndex.{EntryIndex}
-use Rattle.item_row.specs.declared.ItemRowRead.{ItemRowRead}
-use Rattle.item_row.specs.declared.ItemRowRead.TheVariants.{Item, Refused}
+use Rattle.refusal.specs.declared.Reason.{Reason}
 use Rattle.refusal.specs.declared.Reason.TheVariants.{CommandUnknown, ItemTypeUnknown, OpUnknown}
 
 -- how many rows of items, or of entries, lent words hold
@@ -24,36 +23,36 @@ entry_row_count words = length words / 3
 
 -- ---- from words to an item
 
-abbrev pub item_of : ℕ → LogItemContent → ItemRowRead
-item_of group content = Item (record { raft_group_id = group; content = content })
+abbrev pub item_of : ℕ → LogItemContent → Result LogItem Reason
+item_of group content = Ok (record { raft_group_id = group; content = content })
 
 abbrev pub span_of : ℕ → ℕ → Span
 span_of at len = record { at = at; len = len }
 
 -- 1 clean, or 2 compact and an index
-unfoldable pub command_row : ℕ → ℕ → ℕ → ItemRowRead
+unfoldable pub command_row : ℕ → ℕ → ℕ → Result LogItem Reason
 command_row group kind a =
     cond (eqb kind 1) (item_of group (contents.Command Clean))
     (cond (eqb kind 2) (item_of group (contents.Command (Compact a)))
-    (Refused CommandUnknown))
+    (Err CommandUnknown))
 
 -- 1 put (key, content) or 2 delete (key)
-unfoldable pub key_row : ℕ → ℕ → Span → Span → ItemRowRead
+unfoldable pub key_row : ℕ → ℕ → Span → Span → Result LogItem Reason
 key_row group kind key value =
     cond (eqb kind 1) (item_of group (contents.Kv (record { key = key; op = Put value })))
     (cond (eqb kind 2) (item_of group (contents.Kv (record { key = key; op = Del })))
-    (Refused OpUnknown))
+    (Err OpUnknown))
 
 -- the item of seven words; those that it has no use for do not matter
-unfoldable pub row_item : ℕ → ℕ → ℕ → ℕ → ℕ → ℕ → ℕ → ItemRowRead
+unfoldable pub row_item : ℕ → ℕ → ℕ → ℕ → ℕ → ℕ → ℕ → Result LogItem Reason
 row_item group item-type kind a b c d =
     cond (eqb item-type 1) (item_of group (contents.EntryIndexes (record { count = a; first_index = b })))
     (cond (eqb item-type 2) (command_row group kind a)
     (cond (eqb item-type 3) (key_row group kind (span_of a b) (span_of c d))
-    (Refused ItemTypeUnknown)))
+    (Err ItemTypeUnknown)))
 
 -- the item of row i
-unfoldable pub item_of_row : List ℕ → ℕ → ItemRowRead
+unfoldable pub item_of_row : List ℕ → ℕ → Result LogItem Reason
 item_of_row words i =
     row_item (get_or words (i * 7) 0) (get_or words (i * 7 + 1) 0) (get_or words (i * 7 + 2) 0) (get_or words (i * 7 + 3) 0) (get_or words (i * 7 + 4) 0)
     (get_or words (i * 7 + 5) 0) (get_or words (i * 7 + 6) 0)

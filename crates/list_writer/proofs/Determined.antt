@@ -8,17 +8,14 @@ use Rattle.list_writer.proofs.measure.Kinds as measure_kinds
 use Rattle.list_writer.proofs.measure.Reads as measure_reads
 use Rattle.list_writer.proofs.finish.Kinds as finish_kinds
 use Rattle.list_writer.proofs.finish.Reads as finish_reads
-use Rattle.list_writer.proofs.refuse.Kinds as refuse_kinds
-use Rattle.list_writer.proofs.refuse.Reads as refuse_reads
 use Rattle.list_writer.specs.declared.Measured.{Measured}
-use Rattle.list_writer.specs.declared.Encoded.{Encoded}
+use Rattle.std.specs.Prelude.{Result}
+use Rattle.refusal.specs.declared.Refusal.{Refusal}
 use Rattle.list_writer.specs.Answers.{MeasuredWritten}
 use Rattle.list_writer.proofs.encode.Kinds as encode_kinds
 use Rattle.list_writer.proofs.encode.Reads as encode_reads
 use Rattle.list_writer.proofs.placing.Kinds as placing_kinds
 use Rattle.list_writer.proofs.placing.Reads as placing_reads
-use Rattle.list_writer.proofs.Encoded.new.Kinds as new_kinds
-use Rattle.list_writer.proofs.Encoded.new.Reads as new_reads
 use Rattle.list_writer.proofs.write_head.Kinds as write_head_kinds
 use Rattle.list_writer.proofs.write_head.Reads as write_head_reads
 use Rattle.list_writer.proofs.write_footer.Kinds as write_footer_kinds
@@ -30,11 +27,8 @@ measure κs a x y s t p q = p ∙ sym q
 pub finish : OneAnswer 0 finish_kinds.ps finish_kinds.r finish_reads.Post (λ κs x y s t. x ≡ y)
 finish κs a x y s t p q = p ∙ sym q
 
-pub refuse : OneAnswer 0 refuse_kinds.ps refuse_kinds.r refuse_reads.Post (λ κs x y s t. x ≡ y)
-refuse κs a x y s t p q = p ∙ sym q
-
 -- A measured body has one answer, and leaves one buffer.
-pub written_once : {m : Measured} {bytes out : List ℕ} {at : ℕ} {x y : Encoded} {later other : List ℕ} → MeasuredWritten m bytes out at x later
+pub written_once : {m : Result Measured Refusal} {bytes out : List ℕ} {at : ℕ} {x y : Result ℕ Refusal} {later other : List ℕ} → MeasuredWritten m bytes out at x later
     → MeasuredWritten m bytes out at y other → (x ≡ y) × (later ≡ other)
 written_once {x = x} {y = y} p q = let e : x ≡ y = p.answer ∙ sym q.answer in (e, p.written ∙ (rw e (sym q.written)))
 
@@ -43,9 +37,6 @@ encode κs a x y s t p q = written_once p q
 
 pub placing : OneAnswer 0 placing_kinds.ps placing_kinds.r placing_reads.Post (λ κs x y s t. x ≡ y)
 placing κs a x y s t p q = p ∙ sym q
-
-pub new : OneAnswer 0 new_kinds.ps new_kinds.r new_reads.Post (λ κs x y s t. x ≡ y)
-new κs a x y s t p q = p ∙ sym q
 
 pub write_head : OneAnswer 2 write_head_kinds.ps write_head_kinds.r write_head_reads.Post (λ κs x y s t. (x ≡ y) × (s.1.1.0.now ≡ t.1.1.0.now))
 write_head κs a x y s t p q = (p.0 ∙ sym q.0, p.1 ∙ sym q.1)

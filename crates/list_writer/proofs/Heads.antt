@@ -1,48 +1,70 @@
--- What `measure` and `encode_head` of log_item tell of an item: its refusal, its length and its rows.
+-- What `measure` of log_item tells of an item: its refusal, its length and its rows; and what follows where a verdict is fine.
 -- Assumes nothing.
-use Prim.Native.Nat.{ℕ, zero, suc}
-use mathlib.Core.Path.{◌≡◌, refl, ap}
+use Prim.Native.Nat.{ℕ}
+use mathlib.Core.Path.{◌≡◌, refl}
 use mathlib.Core.Bool.{Bool, true, false, cond}
 use mathlib.Core.List.{List}
-use native.Mathlib.Omega.{arith}
 use lib.ListN.{length}
+use Rattle.std.specs.Prelude.{Result, Ok, Err}
+use Rattle.refusal.specs.First.{◌>>=◌, Checked, fine}
+use Rattle.refusal.specs.declared.Reason.{Reason}
+use Rattle.refusal.specs.declared.Refusal.{Refusal}
 use Rattle.log_item.specs.Entries.{entries_of}
 use Rattle.log_item.specs.declared.LogItem.{LogItem}
-use Rattle.log_item.specs.declared.HeadSize.TheVariants.{Fine, Refused}
+use Rattle.log_item.specs.declared.HeadSize.{HeadSize}
 use Rattle.log_item.specs.Bytes.{head_bytes}
 use Rattle.log_item.specs.Refusing.{content_refusal}
-use Rattle.log_item.specs.Written.{capped, head_of, measure_item}
-use Rattle.list_writer.specs.Refusing.{Verdict, fine, refused, unless_item}
+use Rattle.log_item.specs.Written.{capped, measure_item}
+use Rattle.list_writer.specs.Refusing.{refused, at_item}
+
+-- where item k is not refused, what follows it
+abbrev pub unless_item : Checked Reason → ℕ → Result ℕ Refusal → Result ℕ Refusal
+unless_item r k v = do
+  u ← at_item k r
+  v
 
 module _ (s : List ℕ) (checked : Bool) (used rows : ℕ) (x : LogItem) where
-  pub head_fine : (a b : ℕ) → measure_item s checked used rows x ≡ Fine a b
-      → (content_refusal s checked used rows x.content ≡ 0) × (a ≡ capped (length (head_bytes s x))) × (b ≡ (entries_of x.content).count)
+  pub head_fine : {h : HeadSize} → measure_item s checked used rows x ≡ Ok h
+      → (content_refusal s checked used rows x.content ≡ fine) × (h.len ≡ capped (length (head_bytes s x))) × (h.count ≡ (entries_of x.content).count)
   unfolding measure_item
-  head_fine a b e = go (content_refusal s checked used rows x.content) e
+  head_fine {h} e = go (content_refusal s checked used rows x.content) e
     where
-      go : (r : ℕ) → head_of r (capped (length (head_bytes s x))) (entries_of x.content).count ≡ Fine a b
-          → (r ≡ 0) × (a ≡ capped (length (head_bytes s x))) × (b ≡ (entries_of x.content).count)
-      go zero h = (refl, cc, cc)
-      go (suc r) h = absurd (let z : ◌≡◌ {A = ℕ} 0 1 = cc in omega arith)
+      size : HeadSize
+      size = record { len = capped (length (head_bytes s x)); count = (entries_of x.content).count }
 
-  pub unless_refused : (n k : ℕ) (v : Verdict) → measure_item s checked used rows x ≡ Refused n
-      → unless_item (content_refusal s checked used rows x.content) k v ≡ refused n k
+      go : (r : Checked Reason) → (◌>>=◌ r λ u. Ok size) ≡ Ok h
+          → (r ≡ fine) × (h.len ≡ capped (length (head_bytes s x))) × (h.count ≡ (entries_of x.content).count)
+      go (Ok u) q = (refl, cc, cc)
+      go (Err r) q = cc
+
+  pub unless_refused : {r : Reason} (k : ℕ) (v : Result ℕ Refusal) → measure_item s checked used rows x ≡ Err r
+      → unless_item (content_refusal s checked used rows x.content) k v ≡ refused r k
   unfolding measure_item
-  unless_refused n k v e = go (content_refusal s checked used rows x.content) e
+  unless_refused {r} k v e = go (content_refusal s checked used rows x.content) e
     where
-      go : (r : ℕ) → head_of r (capped (length (head_bytes s x))) (entries_of x.content).count ≡ Refused n → unless_item r k v ≡ refused n k
-      go zero h = absurd (let z : ◌≡◌ {A = ℕ} 0 1 = cc in omega arith)
-      go (suc r) h = let q : suc r ≡ n = cc in ap (λ (m : ℕ). refused m k) q
+      size : HeadSize
+      size = record { len = capped (length (head_bytes s x)); count = (entries_of x.content).count }
+
+      go : (q : Checked Reason) → (◌>>=◌ q λ u. Ok size) ≡ Err r → unless_item q k v ≡ refused r k
+      go (Ok u) p = cc
+      go (Err w) p = let z : w ≡ r = cc in rw z
 
 -- Where a verdict is fine, no test before it refused.
-pub unless_fine : (r k : ℕ) (v : Verdict) (t : ℕ) → unless_item r k v ≡ fine t → (r ≡ 0) × (v ≡ fine t)
-unless_fine zero k v t h = (refl, h)
-unless_fine (suc r) k v t h = absurd (let z : ◌≡◌ {A = ℕ} 0 1 = cc in omega arith)
+pub unless_fine : (r : Checked Reason) (k : ℕ) (v : Result ℕ Refusal) (t : ℕ) → unless_item r k v ≡ Ok t → (r ≡ fine) × (v ≡ Ok t)
+unless_fine (Ok u) k v t h = (refl, h)
+unless_fine (Err r) k v t h = cc
 
-pub cond_fine : (b : Bool) (n k : ℕ) (v : Verdict) (t : ℕ) → cond b (refused n k) v ≡ fine t → (b ≡ false) × (v ≡ fine t)
-cond_fine true n k v t h = absurd (let z : ◌≡◌ {A = ℕ} 0 1 = cc in omega arith)
-cond_fine false n k v t h = (refl, h)
+module _ {A E : Type 0} (b : Bool) (r : E) (v : Result A E) {t : A} where
+  pub cond_fine : cond b (Err r) v ≡ Ok t → (b ≡ false) × (v ≡ Ok t)
+  cond_fine h = go b h
+    where
+      go : (c : Bool) → cond c (Err r) v ≡ Ok t → (c ≡ false) × (v ≡ Ok t)
+      go true q = cc
+      go false q = (refl, q)
 
-pub else_fine : (b : Bool) (n k : ℕ) (v : Verdict) (t : ℕ) → cond b v (refused n k) ≡ fine t → (b ≡ true) × (v ≡ fine t)
-else_fine true n k v t h = (refl, h)
-else_fine false n k v t h = absurd (let z : ◌≡◌ {A = ℕ} 0 1 = cc in omega arith)
+  pub else_fine : cond b v (Err r) ≡ Ok t → (b ≡ true) × (v ≡ Ok t)
+  else_fine h = go b h
+    where
+      go : (c : Bool) → cond c v (Err r) ≡ Ok t → (c ≡ true) × (v ≡ Ok t)
+      go true q = (refl, q)
+      go false q = cc

@@ -2,18 +2,21 @@
 -- Assumes nothing.
 use Prim.Native.Nat.{ℕ, ◌+◌, ◌-◌, ◌*◌, ◌≤◌, ◌<◌}
 use mathlib.Core.Path.{◌≡◌, refl, sym, ap, ◌∙◌}
-use mathlib.Core.Logic.{◌⊎◌, inl, inr}
 use mathlib.Core.Bool.{Bool, true, false, cond}
 use mathlib.Core.List.{List, ◌++◌}
 use native.Mathlib.Omega.{arith}
 use lib.Dec.{ltb, leb}
 use lib.ListN.{length, get_or, length-append}
 use borrow.Author.Tests.{lt-ltb, le-ltb, ltb-true, ltb-false, lt-leb, le-leb, leb-true}
+use Rattle.std.specs.Prelude.{Result, Ok, Err}
+use Rattle.refusal.specs.First.{fine, ◌>>=◌, Checked}
+use Rattle.refusal.specs.declared.Reason.{Reason}
+use Rattle.refusal.specs.declared.Refusal.{Refusal}
 use Rattle.codec.specs.Shortest.{shortest}
 use Rattle.codec.proofs.Theorems.{shortest_spells}
 use Rattle.log_item.specs.Entries.{entries_of}
 use Rattle.log_item.specs.declared.LogItem.{LogItem}
-use Rattle.log_item.specs.declared.HeadSize.TheVariants.{Fine, Refused}
+use Rattle.log_item.specs.declared.HeadSize.{HeadSize}
 use Rattle.log_item.specs.Bytes.{head_bytes}
 use Rattle.log_item.specs.Refusing.{content_refusal}
 use Rattle.log_item.specs.Written.{capped, measure_item}
@@ -21,11 +24,11 @@ use Rattle.log_item.proofs.Refusals.{content_allowed}
 use Rattle.log_item.specs.Blank.{blank_item}
 use Rattle.list_writer.specs.declared.Measured.{Measured}
 use Rattle.list_writer.specs.Bytes.{items_bytes, list_bytes}
-use Rattle.list_writer.specs.Refusing.{Verdict, fine, refused, unless_item, items_verdict, list_verdict}
+use Rattle.list_writer.specs.Refusing.{refused, at_item, items_verdict, list_verdict}
 use Rattle.list_writer.specs.Answers.{measured, measured_of, measure_of}
-use Rattle.list_writer.proofs.Heads.{head_fine, unless_refused, else_fine}
+use Rattle.list_writer.proofs.Heads.{unless_item, head_fine, unless_refused, else_fine}
 use Rattle.list_writer.proofs.Rest.{rest_bytes, bytes_row, bytes_item, bytes_end, bytes_start, rest_verdict, told_row, told_item, told_end, told_start}
-use Rattle.refusal.specs.declared.Reason.TheVariants.{TailTooLarge}
+use Rattle.refusal.specs.declared.Reason.TheVariants.{ItemsTooMany, TailTooLarge, OutputTooLong}
 
 -- A number up to the largest tail has at most ten bytes.
 pub number_short : (n : ℕ) → n ≤ 4294967295 → length (shortest n) ≤ 10
@@ -33,72 +36,57 @@ number_short n h = (shortest_spells n (omega arith)).few
 
 -- ---- what a measure tells
 
--- Its length: four bytes more than the list, which is not refused.
-pub record HasLength (v : Verdict) (n : ℕ) (m : Measured) : Type 0 where
-  pub told : v ≡ fine m.total
-  pub number : m.number ≡ 0
+-- The list is not refused, and its length is four bytes more than the list.
+pub record HasLength (v : Result ℕ Refusal) (n : ℕ) (m : Measured) : Type 0 where
+  pub told : v ≡ Ok m.total
   pub long : m.length ≡ n + 4
   pub small : m.length ≤ 4294967295
 
--- Or why there is none: the list is refused, or it is a 22.
-pub data Measures (v : Verdict) (n : ℕ) (m : Measured) : Type 0 where
-  sized : HasLength v n m → Measures v n m
-  unsized : (v ≡ refused m.number m.item) ⊎ (m.number ≡ 22) → m.length ≡ 0 → Measures v n m
-
-pub measures : (v : Verdict) (n : ℕ) {m : Measured} → m ≡ measured_of v n → Measures v n m
+pub sized_where : (v : Result ℕ Refusal) (n : ℕ) {m : Measured} → measured_of v n ≡ Ok m → HasLength v n m
 unfolding measured_of
-measures (refused a b) n e = rw e (unsized (inl refl) refl)
-measures (fine t) n e = rw e (go (leb (n + 4) 4294967295) refl)
-  where
-    go : (b : Bool) → leb (n + 4) 4294967295 ≡ b → Measures (fine t) n (cond b (measured 0 0 (n + 4) t) (measured 22 0 0 0))
-    go true h = sized (record { told = refl; number = refl; long = refl; small = leb-true _ _ h })
-    go false h = unsized (inr refl) refl
-
-pub sized_where : (v : Verdict) (n : ℕ) {m : Measured} → m ≡ measured_of v n → (m.length ≡ 0 → ⊥) → HasLength v n m
-sized_where v n {m} e h = go (measures v n e)
-  where
-    go : Measures v n m → HasLength v n m
-    go (sized f) = f
-    go (unsized p z) = absurd (h z)
+sized_where (Err r) n e = cc
+sized_where (Ok t) n {m} e =
+    let k = else_fine (leb (n + 4) 4294967295) _ _ e in
+    let same : measured (n + 4) t ≡ m = cc in
+    let small : n + 4 ≤ 4294967295 = leb-true _ _ k.0 in
+    rw (← same) (record { told = refl; long = refl; small = small })
 
 -- A list that is not refused has few enough items, and none of them is refused.
-pub list_fine : (s : List ℕ) (checked : Bool) (xs : List LogItem) (ns : List ℕ) {t : ℕ} → list_verdict s checked xs ns ≡ fine t
-    → (length xs ≤ 256) × (items_verdict s checked xs ns 0 0 0 ≡ fine t)
+pub list_fine : (s : List ℕ) (checked : Bool) (xs : List LogItem) (ns : List ℕ) {t : ℕ} → list_verdict s checked xs ns ≡ Ok t
+    → (length xs ≤ 256) × (items_verdict s checked xs ns 0 0 0 ≡ Ok t)
 unfolding list_verdict
-list_fine s checked xs ns {t} h =
-    let k = else_fine (leb (length xs) 256) 9 0 (items_verdict s checked xs ns 0 0 0) t h in
-    (leb-true (length xs) 256 k.0, k.1)
+list_fine s checked xs ns {t} h = let k = else_fine (leb (length xs) 256) _ _ h in (leb-true (length xs) 256 k.0, k.1)
 
 -- ---- the ways out
 
-pub measured_22 : (t size : ℕ) → 4294967291 < size → measured 22 0 0 0 ≡ measured_of (fine t) size
+pub measured_22 : (t size : ℕ) → 4294967291 < size → refused OutputTooLong 0 ≡ measured_of (Ok t) size
 unfolding measured_of
 measured_22 t size h = rw (lt-leb (size + 4) 4294967295 (omega arith))
 
-pub measured_fine : (t size : ℕ) → size ≤ 4294967291 → measured 0 0 (size + 4) t ≡ measured_of (fine t) size
+pub measured_fine : (t size : ℕ) → size ≤ 4294967291 → Ok (measured (size + 4) t) ≡ measured_of (Ok t) size
 unfolding measured_of
 measured_fine t size h = rw (le-leb (size + 4) 4294967295 (omega arith))
 
-measured_capped : (t size n : ℕ) → capped size ≡ capped n → measured_of (fine t) size ≡ measured_of (fine t) n
+measured_capped : (t size n : ℕ) → capped size ≡ capped n → measured_of (Ok t) size ≡ measured_of (Ok t) n
 measured_capped t size n e = go (ltb 4294967291 size) refl
   where
-    go : (b : Bool) → ltb 4294967291 size ≡ b → measured_of (fine t) size ≡ measured_of (fine t) n
+    go : (b : Bool) → ltb 4294967291 size ≡ b → measured_of (Ok t) size ≡ measured_of (Ok t) n
     go true h =
         let l = ltb-true 4294967291 size h in
         sym (measured_22 t size l) ∙ measured_22 t n (omega arith)
     go false h =
         let l = ltb-false 4294967291 size h in
         let q : size ≡ n = omega arith in
-        ap (λ (k : ℕ). measured_of (fine t) k) q
+        ap (λ (k : ℕ). measured_of (Ok t) k) q
 
 module _ (s : List ℕ) (checked : Bool) (xs : List LogItem) (ns : List ℕ) where
-  pub measured_9 : 256 < length xs → measured 9 0 0 0 ≡ measure_of s checked xs ns
+  pub measured_9 : 256 < length xs → refused ItemsTooMany 0 ≡ measure_of s checked xs ns
   unfolding measure_of list_verdict measured_of
   measured_9 h = rw (lt-leb (length xs) 256 h)
 
-  pub list_refused : (n k : ℕ) → length xs ≤ 256 → items_verdict s checked xs ns 0 0 0 ≡ refused n k → measured n k 0 0 ≡ measure_of s checked xs ns
+  pub list_refused : {r : Reason} {k : ℕ} → length xs ≤ 256 → items_verdict s checked xs ns 0 0 0 ≡ refused r k → refused r k ≡ measure_of s checked xs ns
   unfolding measure_of list_verdict measured_of
-  list_refused n k h e = rw (le-leb (length xs) 256 h, e)
+  list_refused h e = rw (le-leb (length xs) 256 h, e)
 
 -- ---- the loop
 
@@ -146,6 +134,14 @@ module _ (s : List ℕ) (checked : Bool) (xs : List LogItem) (ns : List ℕ) whe
           told = sym (rw (le-ltb 4294967295 (t + r) l) at v) ∙ m.told;
         }
 
+    -- the same at places and sums that are equal to these
+    pub measuring_entry : (r u n : ℕ) {next left : ℕ} → 0 < tails → get_or ns j 0 ≡ r → u ≡ t + r → u ≤ 4294967295 → n ≡ length (shortest u)
+        → next ≡ j + 1 → left ≡ tails - 1 → Measuring s checked xs ns first i next left u (size + n)
+    measuring_entry r u n h e q l p a b = rw (a, b, q) (measuring_row r n h e (omega arith) (rw q at p))
+
+    pub measuring_same : {next left : ℕ} → next ≡ j → left ≡ tails → Measuring s checked xs ns first i next left t size
+    measuring_same a b = rw (a, b) m
+
     pub measuring_row_refused : (r : ℕ) → 0 < tails → get_or ns j 0 ≡ r → 4294967295 < t + r → items_verdict s checked xs ns 0 0 0 ≡ refused TailTooLarge (i - 1)
     measuring_row_refused r h e l =
         let v = rw e at (told_row s xs ns checked i j tails t h m.room) in
@@ -162,10 +158,10 @@ module _ (s : List ℕ) (checked : Bool) (xs : List LogItem) (ns : List ℕ) whe
         ∙ m.told
 
     -- an item
-    pub measuring_item : (x : LogItem) (a b : ℕ) {rows : ℕ} → length ns ≡ rows → tails ≤ 0 → i < length xs → get_or xs i blank_item ≡ x
-        → measure_item s checked j rows x ≡ Fine a b → Measuring s checked xs ns first (i + 1) j b t (size + a)
-    measuring_item x a b all z h e f =
-        let k = head_fine s checked j (length ns) x a b (rw all f) in
+    pub measuring_item : (x : LogItem) {g : HeadSize} {rows : ℕ} → length ns ≡ rows → tails ≤ 0 → i < length xs → get_or xs i blank_item ≡ x
+        → measure_item s checked j rows x ≡ Ok g → Measuring s checked xs ns first (i + 1) j g.count t (size + g.len)
+    measuring_item x {g} all z h e f =
+        let k = head_fine s checked j (length ns) x {h = g} (rw all f) in
         let n = (entries_of x.content).count in
         let y : rest_bytes s xs ns i j tails t ≡ head_bytes s x ++ rest_bytes s xs ns (i + 1) j n t =
         ap (λ (n : ℕ). rest_bytes s xs ns i j n t) (none z) ∙ (rw e at (bytes_item s xs ns i j t h)) in
@@ -180,19 +176,19 @@ module _ (s : List ℕ) (checked : Bool) (xs : List LogItem) (ns : List ℕ) whe
           low = m.low;
           small = omega (arith, m.small, k.1);
           sum = omega (arith, m.sum, k.1, ap length y, length-append (head_bytes s x) (rest_bytes s xs ns (i + 1) j n t));
-          told = sym (ap (λ (r : ℕ). unless_item r i (rest_verdict s xs ns checked (i + 1) j n t)) k.0) ∙ told_now x z h e;
+          told = sym (ap (λ (r : Checked Reason). unless_item r i (rest_verdict s xs ns checked (i + 1) j n t)) k.0) ∙ told_now x z h e;
         })
 
-    pub measuring_item_refused : (x : LogItem) (n : ℕ) {rows : ℕ} → length ns ≡ rows → tails ≤ 0 → i < length xs → get_or xs i blank_item ≡ x
-        → measure_item s checked j rows x ≡ Refused n → items_verdict s checked xs ns 0 0 0 ≡ refused n i
-    measuring_item_refused x n all z h e f = sym (told_now x z h e) ∙ unless_refused s checked j (length ns) x n i _ (rw all f)
+    pub measuring_item_refused : (x : LogItem) {r : Reason} {rows : ℕ} → length ns ≡ rows → tails ≤ 0 → i < length xs → get_or xs i blank_item ≡ x
+        → measure_item s checked j rows x ≡ Err r → items_verdict s checked xs ns 0 0 0 ≡ refused r i
+    measuring_item_refused x all z h e f = sym (told_now x z h e) ∙ unless_refused s checked j (length ns) x i _ (rw all f)
 
     -- the end
-    pub told_all : tails ≤ 0 → length xs ≤ i → items_verdict s checked xs ns 0 0 0 ≡ fine t
+    pub told_all : tails ≤ 0 → length xs ≤ i → items_verdict s checked xs ns 0 0 0 ≡ Ok t
     told_all z h = sym m.told ∙ ap (λ (n : ℕ). rest_verdict s xs ns checked i j n t) (none z) ∙ told_end s xs ns checked i j t m.low h
 
     pub measuring_end : length xs ≤ 256 → first ≡ length (shortest (length xs)) → tails ≤ 0 → length xs ≤ i
-        → measured_of (fine t) size ≡ measure_of s checked xs ns
+        → measured_of (Ok t) size ≡ measure_of s checked xs ns
     unfolding measure_of list_verdict measured_of list_bytes
     measuring_end few e z h =
         let y = ap (λ (n : ℕ). rest_bytes s xs ns i j n t) (none z) ∙ bytes_end s xs ns i j t h in

@@ -10,7 +10,10 @@ use lib.Dec.{ltb}
 use lib.ListN.{length, take, drop, get_or, length-drop, drop_of_length-le}
 use lib.Seq.{drop-cons, drop-drop}
 use borrow.Author.Tests.{ltb-true, lt-ltb, le-ltb, ne_eqb}
-use Rattle.refusal.specs.First.{first_of}
+use Rattle.std.specs.Prelude.{Result, Ok, Err}
+use Rattle.refusal.specs.First.{◌else◌, ◌>>◌, ◌>>=◌, Checked, fine}
+use Rattle.refusal.specs.declared.Reason.{Reason}
+use Rattle.refusal.specs.declared.Refusal.{Refusal}
 use Rattle.codec.specs.Shortest.{shortest}
 use Rattle.log_item.specs.Entries.{entries_of}
 use Rattle.log_item.specs.declared.LogItem.{LogItem}
@@ -20,7 +23,8 @@ use Rattle.log_item.specs.Written.{sum_of, item_bytes}
 use Rattle.log_item.proofs.Tails.{sum_rises}
 use Rattle.log_item.specs.Blank.{blank_item}
 use Rattle.list_writer.specs.Bytes.{items_bytes}
-use Rattle.list_writer.specs.Refusing.{Verdict, fine, refused, unless_item, items_verdict}
+use Rattle.list_writer.specs.Refusing.{refused, at_item, items_verdict}
+use Rattle.list_writer.proofs.Heads.{unless_item}
 use Rattle.refusal.specs.declared.Reason.TheVariants.{TailTooLarge}
 
 one_more : (n : ℕ) → 0 < n → suc (n - 1) ≡ n
@@ -32,12 +36,7 @@ next_length ns j n h = rw (add-one, drop-cons ns j 0)
 next_item : (xs : List LogItem) (i : ℕ) → i < length xs → drop i xs ≡ get_or xs i blank_item ∷ drop (i + 1) xs
 next_item xs i h = drop-cons xs i blank_item h ∙ ap (λ (m : ℕ). get_or xs i blank_item ∷ drop m xs) (sym (add-one i))
 
--- the first of two refusals, and the second where there is no first
-unless_first : (a b k : ℕ) (v : Verdict) → unless_item (first_of a b) k v ≡ unless_item a k (unless_item b k v)
-unless_first zero b k v = refl
-unless_first (suc a) b k v = let some : suc a ≡ 0 → ⊥ = λ z. omega arith in rw (ne_eqb (suc a) 0 some)
-
-unless_cond : (c : Bool) (k : ℕ) (v : Verdict) → unless_item (cond (not c) 0 16) k v ≡ cond c (refused TailTooLarge k) v
+unless_cond : (c : Bool) (k : ℕ) (v : Result ℕ Refusal) → unless_item (cond (not c) fine (Err TailTooLarge)) k v ≡ cond c (refused TailTooLarge k) v
 unless_cond true k v = refl
 unless_cond false k v = refl
 
@@ -83,7 +82,7 @@ module _ (s : List ℕ) (xs : List LogItem) (ns : List ℕ) where
   bytes_start = refl
 
   module _ (checked : Bool) where
-    unfoldable pub rest_verdict : ℕ → ℕ → ℕ → ℕ → Verdict
+    unfoldable pub rest_verdict : ℕ → ℕ → ℕ → ℕ → Result ℕ Refusal
     rest_verdict i j tails t =
         let u = sum_of t (take tails (drop j ns)) in
         cond (ltb 4294967295 u) (refused TailTooLarge (i - 1)) (items_verdict s checked (drop i xs) (drop (j + tails) ns) (j + tails) i u)
@@ -132,13 +131,12 @@ module _ (s : List ℕ) (xs : List LogItem) (ns : List ℕ) where
         let rest = items_verdict s checked (drop (i + 1) xs) (drop n (drop j ns)) (j + n) (i + 1) u in
         told_next i j t low
         ∙ ap (λ (l : List LogItem). items_verdict s checked l (drop j ns) j i t) (next_item xs i h)
-        ∙ unless_first (content_refusal s checked j (j + length (drop j ns)) x.content) (cond (not b) 0 16) i rest
-        ∙ ap (λ (m : ℕ). unless_item (content_refusal s checked j m x.content) i (unless_item (cond (not b) 0 16) i rest)) q
+        ∙ ap (λ (m : ℕ). unless_item (content_refusal s checked j m x.content) i (unless_item (cond (not b) fine (Err TailTooLarge)) i rest)) q
         ∙ ap (unless_item (content_refusal s checked j (length ns) x.content) i) (unless_cond b i rest)
         ∙ ap (λ (l : List ℕ). unless_item (content_refusal s checked j (length ns) x.content) i (cond b (refused TailTooLarge i) (items_verdict s checked (drop (i + 1) xs) l (j + n) (i + 1) u))) (drop-drop n j ns)
         ∙ ap (λ (m : ℕ). unless_item (content_refusal s checked j (length ns) x.content) i (cond b (refused TailTooLarge m) (items_verdict s checked (drop (i + 1) xs) (drop (j + n) ns) (j + n) (i + 1) u))) k
 
-    pub told_end : (i j t : ℕ) → t ≤ 4294967295 → length xs ≤ i → rest_verdict i j 0 t ≡ fine t
+    pub told_end : (i j t : ℕ) → t ≤ 4294967295 → length xs ≤ i → rest_verdict i j 0 t ≡ Ok t
     unfolding items_verdict
     told_end i j t low h = told_next i j t low ∙ ap (λ (l : List LogItem). items_verdict s checked l (drop j ns) j i t) (drop_of_length-le xs h)
 

@@ -8,6 +8,8 @@ use native.Mathlib.Omega.{arith}
 use lib.Dec.{ltb}
 use lib.ListN.{length, get_or, length-append}
 use borrow.Author.Tests.{ltb-false}
+use Rattle.std.specs.Prelude.{Ok}
+use Rattle.refusal.specs.First.{fine}
 use Rattle.codec.specs.Shortest.{shortest}
 use Rattle.words.specs.Write.{next_at, placed}
 use Rattle.log_item.specs.Entries.{entries_of}
@@ -18,14 +20,14 @@ use Rattle.log_item.specs.Private.{Room, Stored}
 use Rattle.log_item.proofs.Refusals.{content_inside_lem, content_allowed}
 use Rattle.log_item.proofs.Stores.{stored_none, stored_at, stored_then, stored_length, stored_same}
 use Rattle.log_item.specs.Blank.{blank_item}
-use Rattle.list_writer.specs.Bytes.{items_bytes}
-use Rattle.list_writer.specs.Refusing.{fine, items_verdict}
+use Rattle.list_writer.specs.Bytes.{items_bytes, list_bytes}
+use Rattle.list_writer.specs.Refusing.{items_verdict}
 use Rattle.list_writer.specs.Pieces.{head_next, head_placed}
 use Rattle.list_writer.proofs.Pieces.{head_stored}
 use Rattle.list_writer.proofs.Heads.{unless_fine, cond_fine}
 use Rattle.list_writer.proofs.Rest.{rest_bytes, bytes_row, bytes_item, bytes_end, bytes_start, rest_verdict, told_row, told_item, told_start}
 
--- Storing what is left from `at` on completes the items from `start` on; four bytes behind it stay free, and no refusal is left.
+-- Storing what is left from `at` on completes the count and the items that begin at `start`; four bytes behind it stay free, and no refusal is left.
 pub record Writing (s : List ℕ) (xs : List LogItem) (ns out₀ : List ℕ) (start : ℕ) (out : List ℕ) (at i j tails t : ℕ) : Type 0 where
   pub checked : Bool
   pub total : ℕ
@@ -35,12 +37,15 @@ pub record Writing (s : List ℕ) (xs : List LogItem) (ns out₀ : List ℕ) (st
   pub low : t ≤ 4294967295
   pub same : length out ≡ length out₀
   pub spare : at + length (rest_bytes s xs ns i j tails t) + 4 ≤ length out
-  pub left : {n : ℕ} {later : List ℕ} → Stored out at (rest_bytes s xs ns i j tails t) n later → Stored out₀ start (items_bytes s xs ns 0) n later
-  pub told : rest_verdict s xs ns checked i j tails t ≡ fine total
+  pub left : {n : ℕ} {later : List ℕ} → Stored out at (rest_bytes s xs ns i j tails t) n later → Stored out₀ start (list_bytes s xs ns) n later
+  pub told : rest_verdict s xs ns checked i j tails t ≡ Ok total
 
-pub writing_start : (s : List ℕ) (checked : Bool) (xs : List LogItem) (ns out : List ℕ) (at total : ℕ) → items_verdict s checked xs ns 0 0 0 ≡ fine total
-    → at + length (items_bytes s xs ns 0) + 4 ≤ length out → Writing s xs ns out at out at 0 0 0 0
-writing_start s checked xs ns out at total e h =
+-- Behind the count nothing but the items is left.
+pub writing_start : (s : List ℕ) (checked : Bool) (xs : List LogItem) (ns : List ℕ) {out₀ out : List ℕ} {start at : ℕ} (total : ℕ)
+    → items_verdict s checked xs ns 0 0 0 ≡ Ok total → Stored out₀ start (shortest (length xs)) at out
+    → at + length (items_bytes s xs ns 0) + 4 ≤ length out → Writing s xs ns out₀ start out at 0 0 0 0
+unfolding list_bytes
+writing_start s checked xs ns total e p h =
     record {
       checked = checked;
       total = total;
@@ -48,9 +53,9 @@ writing_start s checked xs ns out at total e h =
       room = omega arith;
       within = omega arith;
       low = omega arith;
-      same = refl;
+      same = stored_length p;
       spare = omega (arith, ap length (bytes_start s xs ns));
-      left = λ w. stored_same (sym (bytes_start s xs ns)) w;
+      left = λ w. stored_then p (stored_same (sym (bytes_start s xs ns)) w);
       told = told_start s xs ns checked ∙ e;
     }
 
@@ -64,7 +69,7 @@ module _ {s : List ℕ} {xs : List LogItem} {ns out₀ : List ℕ} {start : ℕ}
     spare_now : {next : ℕ} {later : List ℕ} → Stored out at bs next later → next + length rest + 4 ≤ length later
     spare_now p = omega (arith, w.spare, p.after, stored_length p, ap length e, length-append bs rest)
 
-    left_now : {next n : ℕ} {later last : List ℕ} → Stored out at bs next later → Stored later next rest n last → Stored out₀ start (items_bytes s xs ns 0) n last
+    left_now : {next n : ℕ} {later last : List ℕ} → Stored out at bs next later → Stored later next rest n last → Stored out₀ start (list_bytes s xs ns) n last
     left_now p q = w.left (stored_same e (stored_then p q))
 
   -- a tail
@@ -72,10 +77,10 @@ module _ {s : List ℕ} {xs : List LogItem} {ns out₀ : List ℕ} {start : ℕ}
   row_bytes r h e = rw e at (bytes_row s xs ns i j tails t h w.room)
 
   row_told : (r : ℕ) → 0 < tails → get_or ns j 0 ≡ r
-      → (ltb 4294967295 (t + r) ≡ false) × (rest_verdict s xs ns w.checked i (j + 1) (tails - 1) (t + r) ≡ fine w.total)
+      → (ltb 4294967295 (t + r) ≡ false) × (rest_verdict s xs ns w.checked i (j + 1) (tails - 1) (t + r) ≡ Ok w.total)
   row_told r h e =
       let v = rw e at (told_row s xs ns w.checked i j tails t h w.room) in
-      cond_fine (ltb 4294967295 (t + r)) 16 (i - 1) _ w.total (sym v ∙ w.told)
+      cond_fine (ltb 4294967295 (t + r)) _ _ (sym v ∙ w.told)
 
   pub row_low : (r : ℕ) → 0 < tails → get_or ns j 0 ≡ r → t + r ≤ 4294967295
   row_low r h e = ltb-false 4294967295 (t + r) (row_told r h e).0
@@ -109,8 +114,8 @@ module _ {s : List ℕ} {xs : List LogItem} {ns out₀ : List ℕ} {start : ℕ}
   item_bytes_lem x z h e = ap (λ (n : ℕ). rest_bytes s xs ns i j n t) (none z) ∙ (rw e at (bytes_item s xs ns i j t h))
 
   item_told : (x : LogItem) → tails ≤ 0 → i < length xs → get_or xs i blank_item ≡ x
-      → (content_refusal s w.checked j (length ns) x.content ≡ 0)
-      × (rest_verdict s xs ns w.checked (i + 1) j (entries_of x.content).count t ≡ fine w.total)
+      → (content_refusal s w.checked j (length ns) x.content ≡ fine)
+      × (rest_verdict s xs ns w.checked (i + 1) j (entries_of x.content).count t ≡ Ok w.total)
   item_told x z h e =
       unless_fine _ i _ w.total
       (sym (rw e at (told_item s xs ns w.checked i j t w.low h (omega (arith, w.room)))) ∙ sym (ap (λ (n : ℕ). rest_verdict s xs ns w.checked i j n t) (none z))
@@ -122,7 +127,7 @@ module _ {s : List ℕ} {xs : List LogItem} {ns out₀ : List ℕ} {start : ℕ}
   item_inside : (x : LogItem) → tails ≤ 0 → i < length xs → get_or xs i blank_item ≡ x → content_inside s x.content ≡ true
   item_inside x z h e = content_inside_lem s w.checked j (length ns) x.content (item_told x z h e).0
 
-  item_rows : (x : LogItem) → tails ≤ 0 → i < length xs → get_or xs i blank_item ≡ x → j + (entries_of x.content).count ≤ length ns
+  pub item_rows : (x : LogItem) → tails ≤ 0 → i < length xs → get_or xs i blank_item ≡ x → j + (entries_of x.content).count ≤ length ns
   item_rows x z h e = (content_allowed s w.checked j (length ns) x.content (item_told x z h e).0).lent (omega (arith, w.room))
 
   pub item_few : (x : LogItem) → tails ≤ 0 → i < length xs → get_or xs i blank_item ≡ x → j + (entries_of x.content).count ≤ 1024
@@ -146,8 +151,17 @@ module _ {s : List ℕ} {xs : List LogItem} {ns out₀ : List ℕ} {start : ℕ}
         told = (item_told x z h e).1;
       })
 
+  -- the same at places and sums that are equal to these
+  pub writing_entry : (r u : ℕ) (later : List ℕ) (after : ℕ) {next left : ℕ} → 0 < tails → get_or ns j 0 ≡ r → u ≡ t + r
+      → (after ≡ next_at out at (shortest u)) × (later ≡ placed out at (shortest u)) → next ≡ j + 1 → left ≡ tails - 1
+      → Writing s xs ns out₀ start later after i next left u
+  writing_entry r u later after h e q p a b = rw (a, b, q) (writing_row r later after h e (rw q at p))
+
+  pub writing_same : {next left : ℕ} → next ≡ j → left ≡ tails → Writing s xs ns out₀ start out at i next left t
+  writing_same a b = rw (a, b) w
+
   -- the end
-  pub writing_end : tails ≤ 0 → length xs ≤ i → Stored out₀ start (items_bytes s xs ns 0) at out × (at + 4 ≤ length out)
+  pub writing_end : tails ≤ 0 → length xs ≤ i → Stored out₀ start (list_bytes s xs ns) at out × (at + 4 ≤ length out)
   writing_end z h =
       let y = ap (λ (n : ℕ). rest_bytes s xs ns i j n t) (none z) ∙ bytes_end s xs ns i j t h in
       (w.left (stored_same y (stored_none out at)), omega (arith, w.spare, ap length y))

@@ -1,7 +1,8 @@
 -- The place that the writers of a body's pieces answer, and what they leave in the buffer. Where a piece is not written, both are as they were.
 -- Assumes nothing.
 use Rattle.std.specs.Prelude.{ℕ, ◌+◌, ◌-◌, cond, List, leb, length, take, drop}
-use Rattle.refusal.specs.First.{if_none}
+use Rattle.refusal.specs.First.{Checked, if_fine}
+use Rattle.refusal.specs.declared.Reason.{Reason}
 use Rattle.words.specs.Write.{next_at, placed}
 use Rattle.log_item.specs.declared.LogItem.{LogItem}
 use Rattle.log_item.specs.Bytes.{head_bytes}
@@ -10,12 +11,12 @@ use Rattle.log_item.specs.Written.{piece_refusal, placed_unless}
 use Rattle.list_writer.specs.Bytes.{footer_bytes}
 
 -- an item up to its tails: 13, then 21
-abbrev pub head_refusal : List ℕ → LogItem → ℕ → ℕ → ℕ
+abbrev pub head_refusal : List ℕ → LogItem → ℕ → ℕ → Checked Reason
 head_refusal s x all at = piece_refusal (content_inside s x.content) at (length (head_bytes s x)) all
 
 -- the place after it, or the place itself where it is refused
 unfoldable pub head_next : List ℕ → LogItem → ℕ → ℕ → ℕ
-head_next s x all at = if_none (head_refusal s x all at) (at + length (head_bytes s x)) at
+head_next s x all at = if_fine (head_refusal s x all at) (at + length (head_bytes s x)) at
 
 unfoldable pub head_placed : List ℕ → LogItem → List ℕ → ℕ → List ℕ
 head_placed s x out at = placed_unless (head_refusal s x (length out) at) out at (head_bytes s x)

@@ -6,6 +6,7 @@ use lib.Seq.{take-append_seam}
 use borrow.Author.Tests.{eqb-false}
 use Rattle.words.specs.Word.{big_endian, big_endian_bytes, little_endian_bytes}
 use Rattle.words.proofs.Words.{length_big, length_little, big_endian_back, little_endian_back}
+use Rattle.refusal.specs.First.{fine}
 use Rattle.crc.specs.Crc.{crc_of}
 use Rattle.words.specs.Byte.{Bytes}
 use Rattle.crc.proofs.Laws.{crc_lt}
@@ -20,11 +21,11 @@ use Rattle.log_batch.proofs.Sealing.{sealed_of, block_none, block_some}
 use Rattle.log_batch.proofs.Parts.{behind_words, block_there, body_there, header_there, front_there}
 
 -- The bytes of a block pass its check.
-block_good : (content : List ℕ) → Bytes content → block_check (block_bytes content) ≡ 0
+block_good : (content : List ℕ) → Bytes content → block_check (block_bytes content) ≡ fine
 block_good content bytes = go (eqb (length content) 0) refl
   where
-    go : (b : Bool) → eqb (length content) 0 ≡ b → block_check (block_bytes content) ≡ 0
-    go true e = let z = eqb-true (length content) 0 e in sym (block_none (block_bytes content) (omega (arith, block_empty content z)))
+    go : (b : Bool) → eqb (length content) 0 ≡ b → block_check (block_bytes content) ≡ fine
+    go true e = let z = eqb-true (length content) 0 e in block_none (block_bytes content) (omega (arith, block_empty content z))
     go false e =
         let some : length content ≡ 0 → ⊥ = eqb-false (length content) 0 e in
         let whole = filled_block content some in
@@ -32,7 +33,7 @@ block_good content bytes = go (eqb (length content) 0) refl
         let back = little_endian_back 4 (crc_of content) (crc_lt content bytes) ∙ sym (xor_zero_r (crc_of content)) in
         let good = sealed_of content word 0 (omega arith) (length_little 4 (crc_of content)) back in
         let long : length (block_bytes content) ≡ 0 → ⊥ = λ z. omega (arith, block_filled content some) in
-        sym (block_some (block_bytes content) long (sym (ap (λ (l : List ℕ). seal_check l 0) whole ∙ good)))
+        block_some (block_bytes content) long ∙ ap (λ (l : List ℕ). seal_check l 0) whole ∙ good
 
 -- The content of a block is as long as it was.
 pub content_size : (content : List ℕ) → sealed_length (block_bytes content) ≡ length content

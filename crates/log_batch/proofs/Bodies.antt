@@ -1,12 +1,13 @@
 -- What is read of a body and of its plain form.
 -- Assumes nothing.
-use Rattle.std.proofs.Common.{◌≡◌, ℕ, zero, suc, ◌-◌, ◌<◌, List, length, drop, sym, refl, ap, arith, length-append, length-drop, take-append-drop}
+use Rattle.std.proofs.Common.{◌≡◌, ℕ, ◌-◌, ◌<◌, true, List, length, drop, Ok, Err, sym, refl, ap, arith, length-append, length-drop, take-append-drop}
 use Rattle.log_item.specs.declared.Form.TheVariants.{Any, Plain}
 use Rattle.log_item.specs.declared.LogItem.{LogItem}
 use Rattle.log_item.specs.declared.EntryIndex.{EntryIndex}
 use Rattle.words.specs.Byte.{Bytes}
 use Rattle.words.proofs.Bytes.{bytes_take}
-use Rattle.log_batch.specs.declared.PlainForm.TheVariants as plain
+use Rattle.refusal.specs.First.{Checked, fine}
+use Rattle.refusal.specs.declared.Reason.{Reason}
 use Rattle.log_batch.specs.Acceptable.{Begins, Acceptable}
 use Rattle.log_batch.specs.Plain.{InPlainForm}
 use Rattle.log_batch.specs.Reading.{Answer, accepted, rejected, read_items}
@@ -19,19 +20,19 @@ use Rattle.log_batch.proofs.Listing.{complete, sound, spells_some, begins_any}
 
 module _ {xs : List LogItem} {rows : List EntryIndex} {u q : ℕ} where
   -- An accepted answer was not refused before.
-  accepted_unless : (n : ℕ) (a : Answer) → unless n a ≡ accepted xs rows u q → (n ≡ 0) × (a ≡ accepted xs rows u q)
-  accepted_unless zero a e = (refl, e)
-  accepted_unless (suc n) a e = let z : ◌≡◌ {A = ℕ} 0 1 = cc in absurd (omega arith)
+  accepted_unless : (c : Checked Reason) (a : Answer) → unless c a ≡ accepted xs rows u q → (c ≡ fine) × (a ≡ accepted xs rows u q)
+  accepted_unless (Ok tt) a e = (refl, e)
+  accepted_unless (Err r) a e = cc
 
 -- an answer that is a list
 abbrev Taken : Answer → Type 0
 Taken a = (xs : List LogItem) × (rows : List EntryIndex) × (u : ℕ) × (q : ℕ) × (a ≡ accepted xs rows u q)
 
 -- A yes comes of two readings that accepted.
-twice : (a b : Answer) → plain_of a b ≡ plain.Yes → Taken a × Taken b
+twice : (a b : Answer) → plain_of a b ≡ Ok true → Taken a × Taken b
 twice (accepted xs rows u q) (accepted ys more v r) e = ((xs, rows, u, q, refl), (ys, more, v, r, refl))
-twice (accepted xs rows u q) (rejected r i) e = let z : ◌≡◌ {A = ℕ} 0 1 = cc in absurd (omega arith)
-twice (rejected r i) b e = let z : ◌≡◌ {A = ℕ} 0 1 = cc in absurd (omega arith)
+twice (accepted xs rows u q) (rejected r i) e = cc
+twice (rejected r i) b e = cc
 
 module _ (body : List ℕ) (signature : ℕ) where
   -- A body whose seal is right and whose part before the footer begins with a list is acceptable.
@@ -69,7 +70,7 @@ module _ (body : List ℕ) (signature : ℕ) where
       rw (a.split, sealed_of a.rest a.last signature some a.four a.checks, part_of a.rest a.last a.four) (complete Any a.begins)
 
   -- A body in plain form gets a yes.
-  pub complete_plain : InPlainForm body signature → plain_body body signature ≡ plain.Yes
+  pub complete_plain : InPlainForm body signature → plain_body body signature ≡ Ok true
   unfolding plain_body
   complete_plain f =
       let a = f.acceptable in
@@ -79,7 +80,7 @@ module _ (body : List ℕ) (signature : ℕ) where
       rw (complete_body a, part, complete Plain strict)
 
   -- A body for which the test says yes is in plain form.
-  pub sound_plain : Bytes body → plain_body body signature ≡ plain.Yes → InPlainForm body signature
+  pub sound_plain : Bytes body → plain_body body signature ≡ Ok true → InPlainForm body signature
   unfolding plain_body
   sound_plain bytes e =
       let t = twice (read_body body signature) (read_items Plain (sealed_part body)) e in

@@ -1,6 +1,7 @@
 -- What is still to come of a reading, item after item and tail after tail, and what each tail and each item takes off it.
 -- Assumes nothing.
 use Rattle.std.proofs.Common.{◌≡◌, ℕ, zero, suc, ◌+◌, ◌-◌, ◌<◌, List, [], ◌∷◌, ◌++◌, length, refl, ap, ◌∙◌, append_assoc, arith}
+use Rattle.refusal.specs.declared.Reason.{Reason}
 use Rattle.log_item.specs.Got.{Got, got, refused, done, bind}
 use Rattle.log_item.specs.Entries.{entries_of, tail_row}
 use Rattle.log_item.specs.Reading.{head, tail, tails, one_item}
@@ -72,9 +73,9 @@ module _ (s : List ℕ) (k : ℕ) where
         ∙ ap (λ g. prepend [] (tail_row index t w ∷ []) (behind (i - 1) g (λ rows u z. items Any s (k - i) i (j + 1 + length rows) u z)))
         (same_tails n q w (index + 1) other h))
 
-    pub bad_suc : (n index r : ℕ) → tail Any s t p ≡ refused r → rest i j p t (suc n) index ≡ rejected r (i - 1)
+    pub bad_suc : (n index : ℕ) {r : Reason} → tail Any s t p ≡ refused r → rest i j p t (suc n) index ≡ rejected r (i - 1)
     unfolding rest tails
-    bad_suc n index r e = rw e
+    bad_suc n index e = rw e
 
     pub rest_zero : (index : ℕ) → rest i j p t 0 index ≡ items Any s (k - i) i j t p
     unfolding rest tails
@@ -94,6 +95,6 @@ module _ (s : List ℕ) (k : ℕ) where
         go (got r z) = item_ahead x r.0 (items Any s m (i + 1) (j + length r.0) r.1 z)
         go (refused n) = refl
 
-    pub no_item : (m : ℕ) {r : ℕ} → head Any s j p ≡ refused r → items Any s (suc m) i j t p ≡ rejected r i
+    pub no_item : (m : ℕ) {r : Reason} → head Any s j p ≡ refused r → items Any s (suc m) i j t p ≡ rejected r i
     unfolding items one_item
     no_item m e = rw e

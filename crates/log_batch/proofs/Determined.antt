@@ -1,6 +1,6 @@
 -- No second answer: two results, and two later contents of what is lent, that meet one contract are equal.
 -- Assumes nothing.
-use Rattle.std.proofs.Common.{◌≡◌, ℕ, List, sym, ◌∙◌}
+use Rattle.std.proofs.Common.{◌≡◌, ℕ, List, Result, Ok, Err, sym, ◌∙◌}
 use Rattle.one_answer.specs.OneAnswer.{OneAnswer}
 use Rattle.log_batch.proofs.seal.check_seal.Kinds as check_seal_kinds
 use Rattle.log_batch.proofs.seal.check_seal.Reads as check_seal_reads
@@ -18,7 +18,8 @@ use Rattle.log_batch.proofs.table.read_items.Reads as read_items_reads
 use Rattle.log_batch.proofs.LogItemBatch.decode.Kinds as decode_log_item_batch_kinds
 use Rattle.log_batch.proofs.LogItemBatch.decode.Reads as decode_log_item_batch_reads
 use Rattle.list_writer.specs.declared.Measured.{Measured}
-use Rattle.list_writer.specs.declared.Encoded.{Encoded}
+use Rattle.refusal.specs.declared.Reason.{Reason}
+use Rattle.refusal.specs.declared.Refusal.{Refusal}
 use Rattle.list_writer.proofs.Determined.{written_once}
 use Rattle.log_batch.proofs.LogItemBatch.encode.Kinds as encode_log_item_batch_kinds
 use Rattle.log_batch.proofs.LogItemBatch.encode.Reads as encode_log_item_batch_reads
@@ -34,8 +35,7 @@ use Rattle.log_batch.proofs.front.begin.Kinds as begin_kinds
 use Rattle.log_batch.proofs.front.begin.Reads as begin_reads
 use Rattle.log_batch.specs.Header.{header_got}
 use Rattle.log_batch.specs.Written.{BatchWritten}
-use Rattle.log_batch.specs.declared.HeaderRead.{HeaderRead}
-use Rattle.log_batch.specs.declared.HeaderRead.TheVariants as read
+use Rattle.log_batch.specs.declared.LogBatch.{LogBatch}
 use Rattle.log_batch.proofs.LogBatch.decode_header.Kinds as decode_header_kinds
 use Rattle.log_batch.proofs.LogBatch.decode_header.Reads as decode_header_reads
 use Rattle.log_batch.proofs.LogBatch.decode.Kinds as decode_log_batch_kinds
@@ -68,10 +68,10 @@ read_items κs a x y s t p q = p ∙ sym q
 pub decode_log_item_batch : OneAnswer 1 decode_log_item_batch_kinds.ps decode_log_item_batch_kinds.r decode_log_item_batch_reads.Post (λ κs x y s t. x ≡ y)
 decode_log_item_batch κs a x y s t p q = p ∙ sym q
 
-pub encode_log_item_batch : OneAnswer 2 encode_log_item_batch_kinds.ps encode_log_item_batch_kinds.r encode_log_item_batch_reads.Post (λ κs x y s t. (x ≡ y) × (s.1.1.1.0.now ≡ t.1.1.1.0.now))
+pub encode_log_item_batch : OneAnswer 3 encode_log_item_batch_kinds.ps encode_log_item_batch_kinds.r encode_log_item_batch_reads.Post (λ κs x y s t. (x ≡ y) × (s.1.1.1.0.now ≡ t.1.1.1.0.now))
 encode_log_item_batch κs a x y s t p q = written_once p q
 
-pub encode_unchecked_log_item_batch : OneAnswer 2 encode_unchecked_log_item_batch_kinds.ps encode_unchecked_log_item_batch_kinds.r encode_unchecked_log_item_batch_reads.Post (λ κs x y s t. (x ≡ y) × (s.1.1.1.0.now ≡ t.1.1.1.0.now))
+pub encode_unchecked_log_item_batch : OneAnswer 3 encode_unchecked_log_item_batch_kinds.ps encode_unchecked_log_item_batch_kinds.r encode_unchecked_log_item_batch_reads.Post (λ κs x y s t. (x ≡ y) × (s.1.1.1.0.now ≡ t.1.1.1.0.now))
 encode_unchecked_log_item_batch κs a x y s t p q = written_once p q
 
 pub parse : OneAnswer 1 parse_kinds.ps parse_kinds.r parse_reads.Post (λ κs x y s t. x ≡ y)
@@ -81,17 +81,17 @@ pub check_entry : OneAnswer 1 check_entry_kinds.ps check_entry_kinds.r check_ent
 check_entry κs a x y s t p q = p ∙ sym q
 
 pub entry_view : OneAnswer 2 entry_view_kinds.ps entry_view_kinds.r entry_view_reads.Post (λ κs x y s t. (seen x ≡ seen y) × (s.1.1.1.0.now ≡ t.1.1.1.0.now))
-entry_view κs a x y s t p q = let e : s.1.1.1.0.now ≡ t.1.1.1.0.now = p.0 ∙ sym q.0 in (p.1 ∙ rw e (sym q.1), e)
+entry_view κs a x y s t p q = (p.1 ∙ sym q.1, p.0 ∙ sym q.0)
 
 pub begin : OneAnswer 2 begin_kinds.ps begin_kinds.r begin_reads.Post (λ κs x y s t. (x ≡ y) × (s.1.1.1.0.now ≡ t.1.1.1.0.now))
 begin κs a x y s t p q = let e : x ≡ y = p.answer ∙ sym q.answer in (e, p.front ∙ (rw e (sym q.front)))
 
 -- An answer says in the words of the definitions all that it says.
-header_same : (a b : HeaderRead) → header_got a ≡ header_got b → a ≡ b
-header_same (read.Done x) (read.Done y) e = cc
-header_same (read.Done x) (read.Refused r) e = cc
-header_same (read.Refused r) (read.Done x) e = cc
-header_same (read.Refused r) (read.Refused x) e = cc
+header_same : (a b : Result LogBatch Reason) → header_got a ≡ header_got b → a ≡ b
+header_same (Ok x) (Ok y) e = cc
+header_same (Ok x) (Err r) e = cc
+header_same (Err r) (Ok x) e = cc
+header_same (Err r) (Err x) e = cc
 
 pub decode_header : OneAnswer 1 decode_header_kinds.ps decode_header_kinds.r decode_header_reads.Post (λ κs x y s t. x ≡ y)
 decode_header κs a x y s t p q = header_same x y (p ∙ sym q)
@@ -103,12 +103,12 @@ pub check_front : OneAnswer 1 check_front_kinds.ps check_front_kinds.r check_fro
 check_front κs a x y s t p q = header_same x y (p ∙ sym q)
 
 -- A measured batch has one answer, and leaves one buffer.
-pub batch_once : {m : Measured} {items : ℕ} {content body out : List ℕ} {x y : Encoded} {later other : List ℕ} → BatchWritten m items content body out x later
+pub batch_once : {m : Result Measured Refusal} {items : ℕ} {content body out : List ℕ} {x y : Result ℕ Refusal} {later other : List ℕ} → BatchWritten m items content body out x later
     → BatchWritten m items content body out y other → (x ≡ y) × (later ≡ other)
 batch_once {x = x} {y = y} p q = let e : x ≡ y = p.answer ∙ sym q.answer in (e, p.written ∙ (rw e (sym q.written)))
 
-pub encode_log_batch : OneAnswer 3 encode_log_batch_kinds.ps encode_log_batch_kinds.r encode_log_batch_reads.Post (λ κs x y s t. (x ≡ y) × (s.1.1.1.1.0.now ≡ t.1.1.1.1.0.now))
+pub encode_log_batch : OneAnswer 4 encode_log_batch_kinds.ps encode_log_batch_kinds.r encode_log_batch_reads.Post (λ κs x y s t. (x ≡ y) × (s.1.1.1.1.0.now ≡ t.1.1.1.1.0.now))
 encode_log_batch κs a x y s t p q = batch_once p q
 
-pub encode_unchecked_log_batch : OneAnswer 3 encode_unchecked_log_batch_kinds.ps encode_unchecked_log_batch_kinds.r encode_unchecked_log_batch_reads.Post (λ κs x y s t. (x ≡ y) × (s.1.1.1.1.0.now ≡ t.1.1.1.1.0.now))
+pub encode_unchecked_log_batch : OneAnswer 4 encode_unchecked_log_batch_kinds.ps encode_unchecked_log_batch_kinds.r encode_unchecked_log_batch_reads.Post (λ κs x y s t. (x ≡ y) × (s.1.1.1.1.0.now ≡ t.1.1.1.1.0.now))
 encode_unchecked_log_batch κs a x y s t p q = batch_once p q

@@ -1,3 +1,4 @@
+pub mod Planning
 pub mod Sealing
 pub mod Accepts
 pub mod Rows
@@ -5,7 +6,6 @@ pub mod Listing
 pub mod One
 pub mod Bodies
 pub mod Checking
-pub mod NonZero
 pub mod FilledRows
 pub mod Coming
 pub mod Filling
@@ -15,7 +15,6 @@ pub mod Parts
 pub mod WrittenBytes
 pub mod Spelled
 pub mod ListWritten
-pub mod Planning
 pub mod Fronts
 pub mod Written
 pub mod Again

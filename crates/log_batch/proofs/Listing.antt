@@ -16,7 +16,8 @@ use Rattle.log_batch.specs.Rows.{Joined, Indexed}
 use Rattle.log_batch.specs.Rows as lie
 use Rattle.words.specs.Place.{At, Found}
 use Rattle.log_item.specs.ItemSpelled.{Asks}
-use Rattle.log_item.proofs.Holds.{Says, holds, after, if_most}
+use Rattle.refusal.specs.declared.Reason.TheVariants.{ItemsTooMany}
+use Rattle.log_item.proofs.Holds.{Holds, holds, after, at_most}
 use Rattle.words.proofs.Place.{join, cut, at_nothing, at_front}
 use Rattle.log_item.proofs.Numbers.{complete_number, sound_number, number_some, in_any}
 use Rattle.log_batch.proofs.Rows.{item_length, item_joined, item_consecutive, joined_append}
@@ -81,9 +82,9 @@ module _ (form : Form) (s : List ℕ) (asks : Asks form s) where
       }
 
   -- A count that is read is spelled, and at most 256.
-  pub sound_count : Says (λ k q. Found s (NumberIn form k) 0 q × (k ≤ 256)) (count form s 0)
+  pub sound_count : Holds (λ k q. Found s (NumberIn form k) 0 q × (k ≤ 256)) (count form s 0)
   unfolding count
-  sound_count = after (sound_number form s asks 0) λ k q f. if_most k 256 _ _ _ λ few. holds (f, few)
+  sound_count = after (sound_number form s asks 0) λ k q f. at_most k 256 ItemsTooMany _ _ λ few. holds (f, few)
 
   -- A list that is read spells a beginning, within the limits, and the place after it is where the beginning ends.
   pub sound : Accepts (λ xs rows u q. (bytes : List ℕ) × Begins form s xs rows u bytes × (q ≡ length bytes)) (read_items form s)

@@ -1,12 +1,14 @@
 -- Demand 3 of what a caller gets: each answer that meets the contract of a reader, for any bytes under any signature.
 -- Assumes nothing.
-use Rattle.std.proofs.Common.{◌≡◌, ℕ, ◌+◌, ◌-◌, ◌*◌, ◌/◌, ◌%◌, ◌<◌, ◌≤◌, ◌↔◌, List, [], ◌∷◌, ◌++◌, length, take, drop, sym, refl, ap, ◌∙◌, append_assoc, add-sub_of_le, arith, length-append, length-drop, take-append-drop, length-take, drop-drop, eq-eqb, ne_eqb}
+use Rattle.std.proofs.Common.{◌≡◌, ℕ, ◌+◌, ◌-◌, ◌*◌, ◌/◌, ◌%◌, ◌<◌, ◌≤◌, ◌↔◌, List, [], ◌∷◌, ◌++◌, length, take, drop, None, Ok, sym, refl, ap, ◌∙◌, append_assoc, add-sub_of_le, arith, length-append, length-drop, take-append-drop, length-take, drop-drop, eq-eqb, ne_eqb}
 use lib.Bits.{xor_zero_r}
 use contract.Lifetimes.{Lfts}
 use denote.Triple.Clauses.{AtExit}
 use borrow.Fn.Kinds.{ParamKind, ResultKind, Out, Dens, res_t, ended_of}
 use Rattle.words.specs.Word.{big_endian}
 use Rattle.crc.specs.Crc.{crc_of}
+use Rattle.refusal.specs.First.{fine}
+use Rattle.refusal.specs.declared.Reason.TheVariants.{BatchShort, Compressed, CompressionUnknown, HeaderShort, OffsetAboveLength, OffsetBelowHeader}
 use Rattle.log_item.specs.Got.{got}
 use Rattle.log_item.specs.declared.Span.{Span}
 use Rattle.log_item.specs.declared.LogItem.{LogItem}
@@ -16,7 +18,7 @@ use Rattle.log_batch.specs.Acceptable.{Acceptable, Block, AcceptableBatch}
 use Rattle.log_batch.specs.Acceptable as acceptable
 use Rattle.log_batch.specs.Reading.{Answer, accepted, rejected}
 use Rattle.log_batch.specs.Body.{read_body}
-use Rattle.log_batch.specs.declared.BodyCheck.TheVariants as check
+use Rattle.log_batch.specs.declared.BodyCheck.{BodyCheck}
 use Rattle.log_batch.specs.Answers.{check_of}
 use Rattle.log_batch.specs.Table.{table_of, body_table}
 use Rattle.log_batch.specs.Seal.{sealed_length, sealed_part, seal_check, block_check}
@@ -26,8 +28,7 @@ use Rattle.log_batch.specs.Header.{frame, header}
 use Rattle.log_batch.specs.Batch.{block_of, body_of, front_batch, read_batch}
 use Rattle.log_batch.proofs.Bodies.{sound_body, complete_body}
 use Rattle.log_batch.proofs.Sealing.{sealed, sealed_of, block_some}
-use Rattle.log_batch.proofs.NonZero.{refusal_some}
-use Rattle.log_batch.proofs.Frames.{front_known}
+use Rattle.log_batch.proofs.Frames.{front_known, passing_holds}
 use Rattle.log_batch.proofs.Parts.{all, stated, block_there, body_there, front_there}
 use Rattle.log_batch.proofs.Whole.{body_read, batch_exactly}
 use Rattle.log_batch.proofs.LogItemBatch.decode.Kinds as body_kinds
@@ -44,16 +45,16 @@ EachAnswer n ps r Post Holds = (κs : Lfts n) (a : Dens κs ps) (x : (res_t r κ
 
 -- ---- bodies
 
--- A table whose number is 0 is that of an accepted body.
-none_refused : (place block : Span) (body : List ℕ) (signature : ℕ) (a : Answer) → read_body body signature ≡ a → (table_of place block a).refusal.number ≡ 0
+-- A table with no refusal is that of an accepted body.
+none_refused : (place block : Span) (body : List ℕ) (signature : ℕ) (a : Answer) → read_body body signature ≡ a → (table_of place block a).refusal ≡ None
     → (xs : List LogItem) × (rows : List EntryIndex) × (total : ℕ) × (bytes : List ℕ) × Acceptable body signature xs rows total bytes
 unfolding table_of
 none_refused place block body signature (accepted xs rows u q) e z = let h = sound_body body signature e in (xs, rows, u, h.0, h.1)
-none_refused place block body signature (rejected r i) e z = absurd (refusal_some body signature e z)
+none_refused place block body signature (rejected r i) e z = cc
 
 -- `LogItemBatch::decode`: the table's refusal is none exactly when the body is acceptable for some list, and then the table is that list's.
 pub body_decoded : EachAnswer 1 body_kinds.ps body_kinds.r body_Reads.Post λ κs a t. let body = a.0.now in let signature = a.1.0 in
-    ((t.refusal.number ≡ 0) ↔ ((xs : List LogItem) × (rows : List EntryIndex) × (total : ℕ) × (bytes : List ℕ) × Acceptable body signature xs rows total bytes))
+    ((t.refusal ≡ None) ↔ ((xs : List LogItem) × (rows : List EntryIndex) × (total : ℕ) × (bytes : List ℕ) × Acceptable body signature xs rows total bytes))
     × ((xs : List LogItem) (rows : List EntryIndex) (total : ℕ) (bytes : List ℕ) → Acceptable body signature xs rows total bytes
     → t ≡ body_table body (accepted xs rows total (length bytes)))
 unfolding table_of
@@ -66,26 +67,26 @@ body_decoded κs a t s p =
 
 -- `check`: it accepts exactly when the body is acceptable for some list, and then tells the counts, the entry total and the place after that list.
 pub body_checked : EachAnswer 1 check_kinds.ps check_kinds.r check_reads.Post λ κs a r. let body = a.0.now in let signature = a.1.0 in
-    (((n : ℕ) × (m : ℕ) × (u : ℕ) × (q : ℕ) × (r ≡ check.Accepted n m u q))
+    (((x : BodyCheck) × (r ≡ Ok x))
     ↔ ((xs : List LogItem) × (rows : List EntryIndex) × (total : ℕ) × (bytes : List ℕ) × Acceptable body signature xs rows total bytes))
     × ((xs : List LogItem) (rows : List EntryIndex) (total : ℕ) (bytes : List ℕ) → Acceptable body signature xs rows total bytes
-    → r ≡ check.Accepted (length xs) (length rows) total (length bytes))
+    → r ≡ Ok (record { items = length xs; entries = length rows; total = total; next = length bytes }))
 body_checked κs a r s p =
     let body = a.0.now in
     let signature = a.1.0 in (
-      (λ k. some body signature (read_body body signature) refl (sym p ∙ k.4), λ h. (_, _, _, _, p ∙ ap check_of (complete_body body signature h.4))),
+      (λ k. some body signature (read_body body signature) refl (sym p ∙ k.1), λ h. (_, p ∙ ap check_of (complete_body body signature h.4))),
       λ xs rows total bytes h. p ∙ ap check_of (complete_body body signature h),
     )
   where
-    some : (body : List ℕ) (signature : ℕ) (b : Answer) {n m u q : ℕ} → read_body body signature ≡ b → check_of b ≡ check.Accepted n m u q
+    some : (body : List ℕ) (signature : ℕ) (b : Answer) {x : BodyCheck} → read_body body signature ≡ b → check_of b ≡ Ok x
         → (xs : List LogItem) × (rows : List EntryIndex) × (total : ℕ) × (bytes : List ℕ) × Acceptable body signature xs rows total bytes
     some body signature (accepted xs rows u q) e f = let h = sound_body body signature e in (xs, rows, u, h.0, h.1)
-    some body signature (rejected r i) e f = let z : ◌≡◌ {A = ℕ} 0 1 = cc in absurd (omega arith)
+    some body signature (rejected r i) e f = cc
 
 -- ---- a block
 
 -- A block that passes its check is empty, or content and its checksum.
-block_sound : (b : List ℕ) → block_check b ≡ 0 → Block (sealed_part b) b
+block_sound : (b : List ℕ) → block_check b ≡ fine → Block (sealed_part b) b
 unfolding block_check
 block_sound [] e = acceptable.Block.empty
 block_sound (x ∷ xs) e =
@@ -97,13 +98,13 @@ block_sound (x ∷ xs) e =
     acceptable.Block.filled (drop (sealed_length b) b) (sym (take-append-drop (sealed_length b) b)) some four (k.right ∙ xor_zero_r (crc_of (sealed_part b)))
 
 -- The other way round; and how much content there is.
-block_complete : {content b : List ℕ} → Block content b → (block_check b ≡ 0) × (sealed_length b ≡ length content)
+block_complete : {content b : List ℕ} → Block content b → (block_check b ≡ fine) × (sealed_length b ≡ length content)
 unfolding block_check
 block_complete acceptable.Block.empty = (refl, refl)
 block_complete {content} {b} (acceptable.Block.filled last split some four checks) =
     let long : length b ≡ length content + 4 = ap length split ∙ length-append content last ∙ ap (λ (n : ℕ). length content + n) four in
     let good = sealed_of content last 0 some four (checks ∙ sym (xor_zero_r (crc_of content))) in
-    (sym (block_some b (λ z. omega arith) (sym (ap (λ (l : List ℕ). seal_check l 0) split ∙ good))), omega arith)
+    (block_some b (λ z. omega arith) ∙ ap (λ (l : List ℕ). seal_check l 0) split ∙ good, omega arith)
 
 -- ---- the header
 
@@ -117,7 +118,7 @@ record States (s : List ℕ) (h : LogBatch) : Type 0 where
 record Stands (s : List ℕ) (h : LogBatch) : Type 0 where
   states : States s h
   none : h.compression ≡ 0
-  block : block_check (block_of h s) ≡ 0
+  block : block_check (block_of h s) ≡ fine
 
 module _ (s : List ℕ) where
   header_states : (p : ℕ) → Holds (λ h q. States s h) (header s p)
@@ -125,19 +126,19 @@ module _ (s : List ℕ) where
   header_states p =
       let a : ℕ = big_endian (take 8 s) in
       let b : ℕ = big_endian (take 8 (drop 8 s)) in
-      at_most 16 (length s) 1 _ p λ there.
-      at_most (a % 256) 1 2 _ p λ _.
-      at_most b (a / 256) 3 _ p λ _.
-      at_most 16 b 4 _ p λ _.
+      at_most 16 (length s) HeaderShort _ p λ there.
+      at_most (a % 256) 1 CompressionUnknown _ p λ _.
+      at_most b (a / 256) OffsetAboveLength _ p λ _.
+      at_most 16 b OffsetBelowHeader _ p λ _.
       holds (record { there = there; first = omega arith; second = refl })
 
   front_stands : (p : ℕ) → Holds (λ h q. Stands s h) (front_batch s p)
   unfolding front_batch
   front_stands p =
       after (header_states p) λ h q k.
-      at_most h.len (length s) 18 _ q λ there.
-      equal h.compression 0 19 _ q λ none.
-      equal (block_check (block_of h s)) 0 (block_check (block_of h s)) _ q λ block.
+      at_most h.len (length s) BatchShort _ q λ there.
+      equal h.compression 0 Compressed _ q λ none.
+      after (passing_holds (block_check (block_of h s)) q) λ u z block.
       holds (record { states = k; none = none; block = block })
 
 -- ---- whole batches
@@ -201,14 +202,14 @@ module _ (s : List ℕ) (signature : ℕ) where
 
 -- `LogBatch::decode`: the same of a whole batch, and the table states where its body and its block stand.
 pub batch_decoded : EachAnswer 1 batch_kinds.ps batch_kinds.r batch_reads.Post λ κs a t. let s = a.0.now in let signature = a.1.0 in
-    ((t.refusal.number ≡ 0) ↔ ((block : List ℕ) × (body : List ℕ) × (xs : List LogItem) × (rows : List EntryIndex) × (total : ℕ) × (bytes : List ℕ) × AcceptableBatch s signature block body xs rows total bytes))
+    ((t.refusal ≡ None) ↔ ((block : List ℕ) × (body : List ℕ) × (xs : List LogItem) × (rows : List EntryIndex) × (total : ℕ) × (bytes : List ℕ) × AcceptableBatch s signature block body xs rows total bytes))
     × ((block body : List ℕ) (xs : List LogItem) (rows : List EntryIndex) (total : ℕ) (bytes : List ℕ) → AcceptableBatch s signature block body xs rows total bytes
     → t ≡ table_of (record { at = 16 + length block; len = length body }) (record { at = 16; len = length block }) (accepted xs rows total (length bytes)))
 unfolding table_of
 batch_decoded κs a t s p =
     let buf = a.0.now in
     let signature = a.1.0 in
-    let some : t.refusal.number ≡ 0
+    let some : t.refusal ≡ None
     → (block : List ℕ) × (body : List ℕ) × (xs : List LogItem) × (rows : List EntryIndex) × (total : ℕ) × (bytes : List ℕ) × AcceptableBatch buf signature block body xs rows total bytes =
     λ z. let k = (batch_exactly buf signature).0 (rw p at z) in let h = sound_body _ signature k.3.3 in (_, _, _, _, _, h.0, batch_sound buf signature k.2 h.1) in
-    ((some, λ h. ap (λ (x : LogItemBatch). x.refusal.number) (p ∙ batch_complete buf signature h.6)), λ block body xs rows total bytes h. p ∙ batch_complete buf signature h)
+    ((some, λ h. ap (λ (x : LogItemBatch). x.refusal) (p ∙ batch_complete buf signature h.6)), λ block body xs rows total bytes h. p ∙ batch_complete buf signature h)

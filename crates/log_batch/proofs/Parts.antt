@@ -2,6 +2,7 @@
 -- Assumes nothing.
 use Rattle.std.proofs.Common.{◌≡◌, ℕ, ◌+◌, ◌-◌, ◌*◌, ◌/◌, ◌%◌, ◌≤◌, List, ◌++◌, length, take, drop, sym, refl, ap, ◌∙◌, ap₂, append_assoc, arith, length-append, take_at, drop_at, le-leb}
 use Rattle.words.specs.Word.{big_endian}
+use Rattle.refusal.specs.First.{fine}
 use Rattle.log_item.specs.Got.{got}
 use Rattle.log_batch.specs.Seal.{block_check}
 use Rattle.log_batch.specs.declared.LogBatch.{LogBatch}
@@ -58,9 +59,9 @@ module _ (first second block body past : List ℕ) (eight : length first ≡ 8) 
         let size : len * 256 / 256 ≡ len = omega arith in
         let none : len * 256 % 256 ≡ 0 = omega arith in
         rw (le-leb 16 (length (all first second block body past)) there)
-        (ap₂ (λ (x y : ℕ). frame x y 0) (ap big_endian first_word ∙ whole) (ap big_endian second_word ∙ offset) ∙ sym good
+        (ap₂ (λ (x y : ℕ). frame x y 0) (ap big_endian first_word ∙ whole) (ap big_endian second_word ∙ offset) ∙ good
         ∙ ap₂ (λ (x y : ℕ). got (record { offset = 16 + length block; len = x; compression = y }) 16) size none)
 
-    pub front_there : block_check block ≡ 0 → front_batch (all first second block body past) 0 ≡ got (stated block body) 16
+    pub front_there : block_check block ≡ fine → front_batch (all first second block body past) 0 ≡ got (stated block body) 16
     front_there good =
-        sym (front_good (all first second block body past) header_there (omega (arith, long)) refl (sym (ap block_check block_there ∙ good)) refl)
+        front_good (all first second block body past) header_there (omega (arith, long)) refl (ap block_check block_there ∙ good)

@@ -1,21 +1,18 @@
--- What a whole batch comes to before it is written: the lengths of its parts, and a law for each answer of the checks.
+-- What a whole batch comes to before it is written: the lengths of its parts, what its answer tells, and where it is refused.
 -- Assumes nothing.
-use Rattle.std.proofs.Common.{◌≡◌, ℕ, ◌+◌, ◌*◌, ◌<◌, ◌≤◌, Bool, true, false, not, ◌&&◌, eqb, leb, ◌⊎◌, List, [], ◌++◌, length, refl, ap, ◌∙◌, inl, inr, arith, length-append, eq-eqb, ne_eqb, eqb-true, le-leb, leb-true}
+use Rattle.std.proofs.Common.{◌≡◌, ℕ, ◌+◌, ◌*◌, ◌<◌, ◌≤◌, Bool, true, false, cond, not, ◌&&◌, eqb, leb, ◌⊎◌, List, [], ◌++◌, length, Result, Ok, Err, refl, ap, ◌∙◌, inl, inr, arith, length-append, eq-eqb, ne_eqb, eqb-true, le-leb, leb-true}
 use mathlib.Core.Bool.{and-false}
 use lib.Bits.{xor_zero_r}
-use borrow.Author.Tests.{not-true, lt-leb, eqb-false}
-use Rattle.refusal.proofs.First.{not_second}
+use borrow.Author.Tests.{lt-leb, eqb-false}
 use Rattle.words.specs.Word.{big_endian_bytes, little_endian_bytes}
 use Rattle.words.proofs.Words.{length_big, length_little}
 use Rattle.crc.specs.Crc.{crc_of}
-use Rattle.log_item.specs.declared.LogItem.{LogItem}
+use Rattle.refusal.specs.declared.Reason.TheVariants.{BlockDiffers, OutputShort, OutputTooLong}
+use Rattle.refusal.specs.declared.Refusal.{Refusal}
 use Rattle.list_writer.specs.declared.Measured.{Measured}
-use Rattle.list_writer.specs.declared.Encoded.{Encoded}
-use Rattle.list_writer.specs.Bytes.{list_bytes, footed}
-use Rattle.list_writer.specs.Refusing.{fine, list_verdict}
-use Rattle.list_writer.specs.Answers.{measure_of, encoded}
-use Rattle.list_writer.proofs.Measuring.{Measures, sized, unsized, measures, sized_where}
-use Rattle.list_writer.proofs.Bodies.{some_length}
+use Rattle.list_writer.specs.Bytes.{footed}
+use Rattle.list_writer.proofs.Heads.{else_fine}
+use Rattle.list_writer.specs.Refusing.{refused}
 use Rattle.log_batch.specs.Front.{block_bytes, body_offset, header_bytes, front_bytes, batch_encoded}
 
 -- ---- lengths
@@ -53,95 +50,64 @@ unfolding front_bytes
 front_length len content =
     length-append (header_bytes len (body_offset content)) (block_bytes content) ∙ omega (arith, header_length len (body_offset content))
 
--- A body that is not refused is short enough for the sums behind it.
-pub body_small : (s : List ℕ) (checked : Bool) (xs : List LogItem) (ns : List ℕ) {m : Measured} → m ≡ measure_of s checked xs ns → m.length ≤ 4294967295
-unfolding measure_of
-body_small s checked xs ns {m} e = go (measures (list_verdict s checked xs ns) (length (list_bytes s xs ns)) e)
-  where
-    go : Measures (list_verdict s checked xs ns) (length (list_bytes s xs ns)) m → m.length ≤ 4294967295
-    go (sized f) = f.small
-    go (unsized p z) = omega arith
-
--- The verdict on a list whose measure has a length.
-pub verdict_of : (s : List ℕ) (checked : Bool) (xs : List LogItem) (ns : List ℕ) → ((measure_of s checked xs ns).length ≡ 0 → ⊥)
-    → list_verdict s checked xs ns ≡ fine (measure_of s checked xs ns).total
-unfolding measure_of
-verdict_of s checked xs ns h = (sized_where (list_verdict s checked xs ns) (length (list_bytes s xs ns)) refl h).told
-
 -- ---- the answer
+
+-- What an answer of some bytes tells of the body's measure.
+pub record Planned (b : Measured) (content : List ℕ) (room n : ℕ) : Type 0 where
+  pub few : length content ≤ 2147483647
+  pub total : b.total ≡ length content
+  pub size : n ≡ body_offset content + b.length
+  pub fits : n ≤ room
+
+module _ (items : ℕ) (content : List ℕ) (room : ℕ) {n : ℕ} where
+  planned_body : (b : Measured) → batch_encoded (Ok b) 1 content room ≡ Ok n → Planned b content room n
+  unfolding batch_encoded
+  planned_body b e =
+      let size : ℕ = body_offset content + b.length in
+      let p = else_fine (leb b.total 2147483647) _ _ e in
+      let q = else_fine (eqb b.total (length content)) _ _ p.1 in
+      let r = else_fine (leb size room) _ _ q.1 in
+      let few = leb-true b.total 2147483647 p.0 in
+      let same = eqb-true b.total (length content) q.0 in
+      let fits = leb-true size room r.0 in
+      let long : size ≡ n = cc r.1 in
+      record { few = omega arith; total = same; size = omega arith; fits = omega arith }
+
+  pub planned : (m : Result Measured Refusal) → batch_encoded m items content room ≡ Ok n → (n ≡ 0 → ⊥)
+      → (b : Measured) × (m ≡ Ok b) × Planned b content room n
+  unfolding batch_encoded
+  planned m told h = go (not (eqb items 0 && eqb (length content) 0)) m refl told
+    where
+      go : (c : Bool) (k : Result Measured Refusal) → m ≡ k → cond c (batch_encoded k 1 content room) (Ok 0) ≡ Ok n
+          → (b : Measured) × (m ≡ Ok b) × Planned b content room n
+      go true (Ok b) e f = (b, e, planned_body b f)
+      go true (Err r) e f = cc
+      go false k e f = let z : 0 ≡ n = cc in absurd (h (omega arith))
+
+  pub plan_of : {m : Result Measured Refusal} {b : Measured} → m ≡ Ok b → batch_encoded m items content room ≡ Ok n → (n ≡ 0 → ⊥) → Planned b content room n
+  plan_of {m} {b} e told h = let p = planned m told h in let same : p.0 ≡ b = cc (p.1) in rw same at p.2
+
+-- ---- where it is refused
 
 something : (items content : ℕ) → (items ≡ 0 → ⊥) ⊎ (content ≡ 0 → ⊥) → (eqb items 0 && eqb content 0) ≡ false
 something items content (inl h) = rw (ne_eqb items 0 h)
 something items content (inr h) = rw (ne_eqb content 0 h) (and-false (eqb items 0))
 
-module _ (m : Measured) (items : ℕ) (content : List ℕ) (room : ℕ) {r : Encoded} where
-  pub nothing_written : items ≡ 0 → length content ≡ 0 → r ≡ encoded 0 0 0 → r ≡ batch_encoded m items content room
+module _ (b : Measured) (items : ℕ) (content : List ℕ) (room : ℕ) (some : (items ≡ 0 → ⊥) ⊎ (length content ≡ 0 → ⊥)) where
+  pub refused_body : (r : Refusal) → batch_encoded (Err r) items content room ≡ Err r
   unfolding batch_encoded
-  nothing_written a b e = rw (eq-eqb _ _ a, eq-eqb _ _ b) e
+  refused_body r = rw (something items (length content) some)
 
-  module _ (some : (items ≡ 0 → ⊥) ⊎ (length content ≡ 0 → ⊥)) where
-    pub refused_body : m.length ≡ 0 → r ≡ encoded m.number m.item 0 → r ≡ batch_encoded m items content room
+  pub refused_22 : 2147483647 < b.total → batch_encoded (Ok b) items content room ≡ refused OutputTooLong 0
+  unfolding batch_encoded
+  refused_22 h = rw (something items (length content) some, lt-leb b.total 2147483647 h)
+
+  module _ (few : b.total ≤ 2147483647) where
+    pub refused_20 : (b.total ≡ length content → ⊥) → batch_encoded (Ok b) items content room ≡ refused BlockDiffers 0
     unfolding batch_encoded
-    refused_body h e = rw (something items (length content) some, eq-eqb m.length 0 h) e
+    refused_20 h = rw (something items (length content) some, le-leb b.total 2147483647 few, ne_eqb b.total (length content) h)
 
-    module _ (long : m.length ≡ 0 → ⊥) where
-      pub refused_22 : 2147483647 < m.total → r ≡ encoded 22 0 0 → r ≡ batch_encoded m items content room
-      unfolding batch_encoded
-      refused_22 h e = rw (something items (length content) some, ne_eqb m.length 0 long, lt-leb m.total 2147483647 h) e
-
-      module _ (few : m.total ≤ 2147483647) where
-        pub refused_20 : (m.total ≡ length content → ⊥) → r ≡ encoded 20 0 0 → r ≡ batch_encoded m items content room
-        unfolding batch_encoded
-        refused_20 h e = rw (something items (length content) some, ne_eqb m.length 0 long, le-leb m.total 2147483647 few, ne_eqb m.total (length content) h) e
-
-        module _ (same : m.total ≡ length content) {offset : ℕ} (there : offset ≡ body_offset content) where
-          pub refused_21 : room < offset + m.length → r ≡ encoded 21 0 0 → r ≡ batch_encoded m items content room
-          unfolding batch_encoded
-          refused_21 h e =
-              rw (something items (length content) some, ne_eqb m.length 0 long, le-leb m.total 2147483647 few, eq-eqb m.total (length content) same, lt-leb _ _ (rw there at h)) e
-
-          pub written_whole : offset + m.length ≤ room → r ≡ encoded 0 0 (offset + m.length) → r ≡ batch_encoded m items content room
-          unfolding batch_encoded
-          written_whole h e =
-              rw (something items (length content) some, ne_eqb m.length 0 long, le-leb m.total 2147483647 few, eq-eqb m.total (length content) same, le-leb _ _ (rw there at h))
-              (e ∙ ap (λ (n : ℕ). encoded 0 0 (n + m.length)) there)
-
--- What an answer with a length tells.
-pub record Planned (m : Measured) (content : List ℕ) (room : ℕ) (r : Encoded) : Type 0 where
-  pub number : r.number ≡ 0
-  pub some : m.length ≡ 0 → ⊥
-  pub few : length content ≤ 2147483647
-  pub total : m.total ≡ length content
-  pub size : r.length ≡ body_offset content + m.length
-  pub fits : r.length ≤ room
-
-pub planned : (m : Measured) (items : ℕ) (content : List ℕ) (room : ℕ) {r : Encoded} → r ≡ batch_encoded m items content room → (r.length ≡ 0 → ⊥)
-    → Planned m content room r
-unfolding batch_encoded
-planned m items content room {r} told h =
-    let size : ℕ = body_offset content + m.length in
-    let a = not_second (not (eqb items 0 && eqb (length content) 0)) told (some_length h) in
-    let b = not_second (not (eqb m.length 0)) a.1 (some_length h) in
-    let c = not_second (leb m.total 2147483647) b.1 (some_length h) in
-    let d = not_second (eqb m.total (length content)) c.1 (some_length h) in
-    let e = not_second (leb size room) d.1 (some_length h) in
-    let long : r.length ≡ size = ap (λ (x : Encoded). x.length) e.1 in
-    let few = leb-true m.total 2147483647 c.0 in
-    let same = eqb-true m.total (length content) d.0 in
-    record {
-      number = ap (λ (x : Encoded). x.number) e.1;
-      some = eqb-false m.length 0 (not-true _ b.0);
-      few = omega arith;
-      total = same;
-      size = long;
-      fits = omega (arith, leb-true size room e.0);
-    }
-
--- An answer that refuses has no length.
-pub refused_length : (m : Measured) (items : ℕ) (content : List ℕ) (room : ℕ) {r : Encoded} → r ≡ batch_encoded m items content room → (r.number ≡ 0 → ⊥)
-    → r.length ≡ 0
-refused_length m items content room {r} e h = go (eqb r.length 0) refl
-  where
-    go : (b : Bool) → eqb r.length 0 ≡ b → r.length ≡ 0
-    go true t = eqb-true _ _ t
-    go false t = absurd (h (planned m items content room e (eqb-false _ _ t)).number)
+    pub refused_21 : b.total ≡ length content → room < body_offset content + b.length → batch_encoded (Ok b) items content room ≡ refused OutputShort 0
+    unfolding batch_encoded
+    refused_21 same h =
+        rw (something items (length content) some, le-leb b.total 2147483647 few, eq-eqb b.total (length content) same, lt-leb _ _ h)

@@ -1,6 +1,6 @@
 -- What is written of a list is spelled, in shortest numbers, by the list with its places worked out, and so it is read back.
 -- Assumes nothing.
-use Rattle.std.proofs.Common.{◌≡◌, ℕ, zero, suc, ◌+◌, ◌^◌, ◌<◌, ◌≤◌, Bool, ◌↔◌, List, [], ◌∷◌, ◌++◌, length, take, drop, sym, refl, ap, ◌∙◌, append-nil, zero-add, arith, lit<, length-append, take_at, lt-ltb, ne_eqb}
+use Rattle.std.proofs.Common.{◌≡◌, ℕ, zero, suc, ◌+◌, ◌^◌, ◌<◌, ◌≤◌, Bool, ◌↔◌, List, [], ◌∷◌, ◌++◌, length, take, drop, Ok, Err, sym, refl, ap, ◌∙◌, append-nil, zero-add, arith, lit<, length-append, take_at, lt-ltb, ne_eqb}
 use lib.Bits.{bit_xor, xor_lt}
 use Rattle.codec.specs.Shortest.{shortest}
 use Rattle.words.specs.Word.{little_endian, little_endian_bytes}
@@ -32,10 +32,11 @@ use Rattle.log_item.specs.Written.{sum_of, row_lengths, item_bytes}
 use Rattle.log_item.specs.Relocated.{stated, content_at, item_at, item_rows_of, numbers_of, Small}
 use Rattle.log_item.proofs.Refusals.{content_inside_lem, content_allowed}
 use Rattle.log_item.proofs.Spelled.{Writable, first_small, written_item, read_item_at, spans_kept}
-use Rattle.list_writer.specs.declared.Encoded.{Encoded}
+use Rattle.refusal.specs.First.{fine}
+use Rattle.refusal.specs.declared.Reason.{Reason}
 use Rattle.log_item.specs.Blank.{blank_item}
 use Rattle.list_writer.specs.Bytes.{items_of, items_bytes, list_bytes, footed, body_bytes}
-use Rattle.list_writer.specs.Refusing.{fine, items_verdict, list_verdict}
+use Rattle.list_writer.specs.Refusing.{items_verdict, list_verdict}
 use Rattle.list_writer.proofs.Measuring.{list_fine}
 use Rattle.log_batch.proofs.ListWritten.{items_fine, Encodes, writes, leaves, encodes}
 use Rattle.log_batch.specs.declared.LogItemBatch.{LogItemBatch}
@@ -63,7 +64,7 @@ same_count p (contents.Command c) = refl
 same_count p (contents.Kv k) = refl
 
 module _ (s : List ℕ) (checked : Bool) (x : LogItem) (ns : List ℕ) (used t : ℕ) (z : Small (x.raft_group_id ∷ numbers_of x.content))
-    (low : used ≤ 1024) (e : content_refusal s checked used (used + length ns) x.content ≡ 0) (h : sum_of t (row_lengths x ns) ≤ 4294967295) where
+    (low : used ≤ 1024) (e : content_refusal s checked used (used + length ns) x.content ≡ fine) (h : sum_of t (row_lengths x ns) ≤ 4294967295) where
   writable : Writable s x ns t
   writable =
       let lent : used + (entries_of x.content).count ≤ used + length ns = (content_allowed s checked used (used + length ns) x.content e).lent (omega arith) in
@@ -92,7 +93,7 @@ module _ (s : List ℕ) (checked : Bool) (x : LogItem) (ns : List ℕ) (used t :
 module _ (s : List ℕ) (checked : Bool) where
   -- Items that are not refused are spelled, with their places worked out from the place p on, and their rows are within the limits.
   pub items_written : (xs : List LogItem) (ns : List ℕ) (used k t u p : ℕ) → AllSmall xs → used ≤ 1024
-      → items_verdict s checked xs ns used k t ≡ fine u
+      → items_verdict s checked xs ns used k t ≡ Ok u
       → Items (NumberIn Plain) (items_at s xs ns p t) (rows_at xs ns t) t u p (items_bytes s xs ns t)
       × Each RowFits (rows_at xs ns t)
       × (used + length (rows_at xs ns t) ≤ 1024)
@@ -111,7 +112,7 @@ module _ (s : List ℕ) (checked : Bool) where
       )
 
   -- Where their bytes stand, their spans have the bytes that they had in the store.
-  pub items_kept : (xs : List LogItem) (ns : List ℕ) (used k t u : ℕ) → AllSmall xs → used ≤ 1024 → items_verdict s checked xs ns used k t ≡ fine u
+  pub items_kept : (xs : List LogItem) (ns : List ℕ) (used k t u : ℕ) → AllSmall xs → used ≤ 1024 → items_verdict s checked xs ns used k t ≡ Ok u
       → {b : List ℕ} {p q : ℕ} → At b p q (items_bytes s xs ns t) → keys_and_contents b (items_at s xs ns p t) ≡ keys_and_contents s xs
   unfolding items_at items_bytes
   items_kept [] ns used k t u none low h f = refl
@@ -125,7 +126,7 @@ module _ (s : List ℕ) (checked : Bool) where
       cc
 
   -- They are written in bytes where the store is bytes.
-  pub items_bytes_lem : Bytes s → (xs : List LogItem) (ns : List ℕ) (used k t u : ℕ) → AllSmall xs → items_verdict s checked xs ns used k t ≡ fine u
+  pub items_bytes_lem : Bytes s → (xs : List LogItem) (ns : List ℕ) (used k t u : ℕ) → AllSmall xs → items_verdict s checked xs ns used k t ≡ Ok u
       → AllBytes (items_bytes s xs ns t)
   unfolding items_bytes
   items_bytes_lem bytes [] ns used k t u none h = none
@@ -148,7 +149,7 @@ module _ (bs : List ℕ) (bytes : Bytes bs) (a : ℕ) (small : a < 2 ^ 32) where
   footer_back = little_endian_back 4 (bit_xor (crc_of bs) a) (xor_lt 32 (crc_of bs) a (crc_lt bs bytes) small)
 
   -- Bytes with a footer for one signature have a wrong one for another.
-  pub footer_wrong : (b : ℕ) → 0 < length bs → (a ≡ b → ⊥) → 6 ≡ seal_check (footed a bs) b
+  pub footer_wrong : (b : ℕ) → 0 < length bs → (a ≡ b → ⊥) → seal_check (footed a bs) b ≡ Err ChecksumWrong
   unfolding seal_check footed
   footer_wrong b some other =
       let last : List ℕ = little_endian_bytes 4 (bit_xor (crc_of bs) a) in
@@ -159,11 +160,11 @@ module _ (bs : List ℕ) (bytes : Bytes bs) (a : ℕ) (small : a < 2 ^ 32) where
 
 -- ---- a list that is not refused
 
-clash : {xs : List LogItem} {rows : List EntryIndex} {u q r i : ℕ} → accepted xs rows u q ≡ rejected r i → ⊥
-clash e = let z : ◌≡◌ {A = ℕ} 0 1 = cc in omega arith
+clash : {xs : List LogItem} {rows : List EntryIndex} {u q i : ℕ} {r : Reason} → accepted xs rows u q ≡ rejected r i → ⊥
+clash e = cc
 
-module _ (s : List ℕ) (checked : Bool) (xs : List LogItem) (ns : List ℕ) (total : ℕ) (z : AllSmall xs) (h : list_verdict s checked xs ns ≡ fine total) where
-  told : (length xs ≤ 256) × (items_verdict s checked xs ns 0 0 0 ≡ fine total)
+module _ (s : List ℕ) (checked : Bool) (xs : List LogItem) (ns : List ℕ) (total : ℕ) (z : AllSmall xs) (h : list_verdict s checked xs ns ≡ Ok total) where
+  told : (length xs ≤ 256) × (items_verdict s checked xs ns 0 0 0 ≡ Ok total)
   told = list_fine s checked xs ns h
 
   -- What is written is spelled, with shortest numbers, by the list with its places worked out, and that list is within the limits.
@@ -219,7 +220,7 @@ module _ (s : List ℕ) (checked : Bool) (xs : List LogItem) (ns : List ℕ) (to
     other_signature a b small =
         let some = spells_some Plain written_spelled.0 in (
           λ e same. clash (sym (read_back a small) ∙ ap (read_body (body_bytes s xs ns a)) same ∙ e),
-          λ other. body_refused (body_bytes s xs ns a) b (footer_wrong (list_bytes s xs ns) (written_bytes bytes) a small b some other) (λ k. omega arith),
+          λ other. body_refused (body_bytes s xs ns a) b (footer_wrong (list_bytes s xs ns) (written_bytes bytes) a small b some other),
         )
 
 -- ---- a table
@@ -237,28 +238,29 @@ table_small t z = go t.item_count t.items z
     go (suc n) [] f = one blank (go n [] f)
     go (suc n) (x ∷ xs) (one h f) = one h (go n xs f)
 
-module _ (checked : Bool) (t : LogItemBatch) (s : List ℕ) (signature : ℕ) (out : List ℕ) {r : Encoded} {later : List ℕ} where
+module _ (checked : Bool) (t : LogItemBatch) (s : List ℕ) (signature : ℕ) (out : List ℕ) {n : ℕ} {later : List ℕ} where
   -- What a writing that is not refused left in the buffer is a written body.
-  pub buffer_written : BodyWritten checked t s signature out r later → r.number ≡ 0
-      → (total : ℕ) × (take r.length later ≡ body_bytes s (listed t) (table.table_lengths t) signature)
-      × (list_verdict s checked (listed t) (table.table_lengths t) ≡ fine total)
-  buffer_written w z = go (encodes s checked (listed t) (table.table_lengths t) signature out 0 w)
+  pub buffer_written : BodyWritten checked t s signature out (Ok n) later
+      → (total : ℕ) × (take n later ≡ body_bytes s (listed t) (table.table_lengths t) signature)
+      × (list_verdict s checked (listed t) (table.table_lengths t) ≡ Ok total)
+  buffer_written w = go (encodes s checked (listed t) (table.table_lengths t) signature out 0 w)
     where
-      go : Encodes s checked (listed t) (table.table_lengths t) signature out 0 r later
-          → (total : ℕ) × (take r.length later ≡ body_bytes s (listed t) (table.table_lengths t) signature)
-          × (list_verdict s checked (listed t) (table.table_lengths t) ≡ fine total)
-      go (writes {total = total} a v long e) =
-          (total, ap (take r.length) e ∙ take_at (body_bytes s (listed t) (table.table_lengths t) signature) _ r.length (sym long), v)
-      go (leaves a e) = absurd (omega arith)
+      go : Encodes s checked (listed t) (table.table_lengths t) signature out 0 (Ok n) later
+          → (total : ℕ) × (take n later ≡ body_bytes s (listed t) (table.table_lengths t) signature)
+          × (list_verdict s checked (listed t) (table.table_lengths t) ≡ Ok total)
+      go (writes {total = total} a v e) =
+          let long : n ≡ length (body_bytes s (listed t) (table.table_lengths t) signature) = cc in
+          (total, ap (take n) e ∙ take_at (body_bytes s (listed t) (table.table_lengths t) signature) _ n (sym long), v)
+      go (leaves a e) = cc
 
   -- So it is read back: the table's list with its places worked out, its rows and a total; and each key and content has the bytes that it had.
-  pub buffer_read_back : AllSmall t.items → Bytes s → signature < 2 ^ 32 → BodyWritten checked t s signature out r later → r.number ≡ 0
+  pub buffer_read_back : AllSmall t.items → Bytes s → signature < 2 ^ 32 → BodyWritten checked t s signature out (Ok n) later
       → (total : ℕ)
-      × (read_body (take r.length later) signature
+      × (read_body (take n later) signature
       ≡ accepted (body_items s (listed t) (table.table_lengths t)) (body_rows (listed t) (table.table_lengths t)) total (length (list_bytes s (listed t) (table.table_lengths t))))
-      × (keys_and_contents (take r.length later) (body_items s (listed t) (table.table_lengths t)) ≡ keys_and_contents s (listed t))
-  buffer_read_back z bytes small w e =
-      let b = buffer_written w e in
+      × (keys_and_contents (take n later) (body_items s (listed t) (table.table_lengths t)) ≡ keys_and_contents s (listed t))
+  buffer_read_back z bytes small w =
+      let b = buffer_written w in
       let read = read_back s checked (listed t) (table.table_lengths t) b.0 (table_small t z) b.2 bytes signature small in
       let kept = written_kept s checked (listed t) (table.table_lengths t) b.0 (table_small t z) b.2 signature in
       (b.0, rw b.1 read, rw b.1 kept)

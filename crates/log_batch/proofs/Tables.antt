@@ -1,13 +1,13 @@
 -- The table of each answer: of a refusal, and of what the loop has filled.
 -- Assumes nothing.
-use Rattle.std.proofs.Common.{◌≡◌, ℕ, ◌≤◌, List, take, replicate, sym, arith}
+use Rattle.std.proofs.Common.{◌≡◌, ℕ, ◌≤◌, List, take, Option, Some, None, sym, ◌∙◌, arith}
+use Rattle.refusal.specs.declared.Reason.{Reason}
 use lib.Seq.{take-append_seam}
 use Rattle.refusal.specs.declared.Refusal.{Refusal}
 use Rattle.log_item.specs.declared.Span.{Span}
 use Rattle.log_item.specs.declared.LogItem.{LogItem}
 use Rattle.log_item.specs.declared.EntryIndex.{EntryIndex}
 use Rattle.log_batch.specs.Reading.{Answer, accepted, rejected}
-use Rattle.log_item.specs.Blank.{blank_item, blank_entry}
 use Rattle.log_batch.specs.Table.{empty_table, table_of}
 use Rattle.log_batch.specs.declared.LogItemBatch.{LogItemBatch}
 use Rattle.log_batch.proofs.FilledRows.{rows_length, rows_pad}
@@ -15,7 +15,7 @@ use Rattle.log_batch.proofs.Filling.{Filling}
 
 -- ---- a table by its parts
 
-abbrev table : Span → Span → List LogItem → ℕ → List EntryIndex → ℕ → ℕ → ℕ → Refusal → LogItemBatch
+abbrev table : Span → Span → List LogItem → ℕ → List EntryIndex → ℕ → ℕ → ℕ → Option Refusal → LogItemBatch
 table body block xs i rows j t p none =
     record {
       items = xs;
@@ -29,17 +29,12 @@ table body block xs i rows j t p none =
       refusal = none;
     }
 
-same_table : (body block : Span) {xs ys : List LogItem} {i k : ℕ} {rows more : List EntryIndex} {j m : ℕ} (t p : ℕ) {none nil : Refusal}
+same_table : (body block : Span) {xs ys : List LogItem} {i k : ℕ} {rows more : List EntryIndex} {j m : ℕ} (t p : ℕ) {none nil : Option Refusal}
     → xs ≡ ys → i ≡ k → rows ≡ more → j ≡ m → none ≡ nil → table body block xs i rows j t p none ≡ table body block ys k more m t p nil
 same_table body block t p a b c d e = rw (a, b, c, d, e)
 
--- The table of repeated blank rows is the empty one.
-pub blanks : {x : LogItem} {y : EntryIndex} (body block : Span) (n m : ℕ) (none : Refusal) → x ≡ blank_item → y ≡ blank_entry
-    → table body block (replicate n x) 0 (replicate m y) 0 0 0 none ≡ table body block (replicate n blank_item) 0 (replicate m blank_entry) 0 0 0 none
-blanks body block n m none e h = rw (e, h)
-
 -- The table of a refusal.
-pub refused_table : (body block : Span) {a : Answer} {t : LogItemBatch} {r i : ℕ} → t ≡ empty_table r i → a ≡ rejected r i → t ≡ table_of body block a
+pub refused_table : (body block : Span) {a : Answer} {t : LogItemBatch} {r : Reason} {i : ℕ} → t ≡ empty_table (Some (record { reason = r; item = i })) → a ≡ rejected r i → t ≡ table_of body block a
 unfolding table_of
 refused_table body block e h = rw h e
 
@@ -50,13 +45,14 @@ unfolding table_of
 in_table body block xs rows u q = (take-append_seam xs _, take-append_seam rows _)
 
 -- The table that the loop leaves is that of the answer.
-pub filled : (body : Span) {block nowhere : Span} {s : List ℕ} {k : ℕ} {xs : List LogItem} {rows : List EntryIndex} {none : Refusal} {i j p t n index : ℕ} {a : Answer}
-    → block ≡ nowhere → Filling s k xs rows none i j p t n index → a ≡ accepted (take i xs) (take j rows) t p
-    → table body block xs i rows j t p none ≡ table_of body nowhere a
+pub filled : (body : Span) {block nowhere : Span} {s : List ℕ} {k : ℕ} {xs : List LogItem} {rows : List EntryIndex} {none : Option Refusal} {i j p t n index : ℕ} {a : Answer}
+    → block ≡ nowhere → none ≡ None → Filling s k xs rows i j p t n index → k ≤ i → a ≡ accepted (take i xs) (take j rows) t p
+    → table body block xs k rows j t p none ≡ table_of body nowhere a
 unfolding table_of
-filled body {block} {nowhere} {s} {k} {xs} {rows} {none} {i} {j} {p} {t} {n} b f e =
+filled body {block} {nowhere} {s} {k} {xs} {rows} {none} {i} {j} {p} {t} {n} b unrefused f all e =
+    let same : k ≡ i = omega (arith, f.most) in
     let few : i ≤ 256 = omega (arith, f.most, f.few) in
     let room : j ≤ 1024 = omega (arith, f.room) in
     rw (e, b)
-    (same_table body nowhere t p (rows_pad f.filled_items few) (sym (rows_length f.filled_items few)) (rows_pad f.filled_rows room)
-    (sym (rows_length f.filled_rows room)) f.unrefused)
+    (same_table body nowhere t p (rows_pad f.filled_items few) (same ∙ sym (rows_length f.filled_items few)) (rows_pad f.filled_rows room)
+    (sym (rows_length f.filled_rows room)) unrefused)

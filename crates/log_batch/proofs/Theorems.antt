@@ -2,7 +2,7 @@
 -- worked examples. What it says of whole batches read stands in Whole.antt, of numbers and words in the Theorems.antt of numbers and of words, of
 -- one item in log_item's Agree.antt.
 -- Assumes nothing.
-use Rattle.std.proofs.Common.{◌≡◌, ℕ, suc, ◌+◌, ◌-◌, ◌^◌, ◌<◌, ◌≤◌, Bool, ◌⊎◌, ◌↔◌, List, [], ◌∷◌, ◌++◌, length, take, drop, sym, refl, ap, ◌∙◌, inl, inr, append_assoc, arith, take_at, eq-eqb, ne_eqb, le-leb}
+use Rattle.std.proofs.Common.{◌≡◌, ℕ, suc, ◌+◌, ◌-◌, ◌^◌, ◌<◌, ◌≤◌, Bool, true, false, ◌⊎◌, ◌↔◌, List, [], ◌∷◌, ◌++◌, length, take, drop, is_some, Some, None, Result, Ok, Err, sym, refl, ap, ◌∙◌, inl, inr, append_assoc, arith, take_at, eq-eqb, ne_eqb, le-leb}
 use lib.Bits.{bit_xor}
 use Rattle.codec.specs.Number.{read_from, read_number}
 use Rattle.codec.specs.Shortest.{spell, shortest}
@@ -18,17 +18,13 @@ use Rattle.log_item.specs.declared.LogItem.{LogItem}
 use Rattle.log_item.specs.declared.EntryIndex.{EntryIndex}
 use Rattle.log_item.specs.declared.Form.{Form}
 use Rattle.log_item.specs.declared.Form.TheVariants.{Any, Plain}
-use Rattle.list_writer.specs.declared.Encoded.{Encoded}
 use Rattle.list_writer.specs.Bytes.{items_bytes, list_bytes, items_of, body_bytes, footed}
-use Rattle.list_writer.specs.Refusing.{fine, items_verdict, list_verdict}
-use Rattle.list_writer.specs.Answers.{measured_of, measure_of, measured, encoded, laid, encoded_of, MeasuredWritten}
+use Rattle.list_writer.specs.Refusing.{refused, items_verdict, list_verdict}
+use Rattle.list_writer.specs.Answers.{measured_of, measure_of, measured, laid, encoded_of, MeasuredWritten}
 use Rattle.log_batch.specs.Reading.{accepted, rejected, Answer, read_items}
 use Rattle.log_batch.specs.Body.{read_body}
-use Rattle.log_batch.specs.declared.Wanted.TheVariants.{Exactly}
 use Rattle.log_batch.specs.Total.{agreeing}
-use Rattle.log_batch.specs.declared.BodyCheck.TheVariants as check
-use Rattle.log_batch.specs.declared.PlainForm.TheVariants as plain
-use Rattle.log_batch.specs.Answers.{check_of, yes_no, plain_body}
+use Rattle.log_batch.specs.Answers.{check_of, plain_of, plain_body}
 use Rattle.log_batch.specs.declared.LogItemBatch.{LogItemBatch}
 use Rattle.log_batch.specs.Table.{table_of, empty_table}
 use Rattle.log_batch.proofs.Tables.{in_table}
@@ -44,17 +40,18 @@ use Rattle.log_batch.proofs.Listing.{complete, sound, items_joined, items_indexe
 use Rattle.log_batch.proofs.One.{one_spelled}
 use Rattle.log_batch.proofs.Bodies.{sound_body, complete_body, sound_plain, complete_plain}
 use Rattle.log_batch.proofs.Spelled.{written_spelled, written_kept, read_back, other_signature, table_small, buffer_written, buffer_read_back}
-use Rattle.log_batch.proofs.ListWritten.{Encodes, writes, leaves, encodes}
-use Rattle.log_batch.specs.Front.{block_bytes, body_offset, batch_encoded}
-use Rattle.log_batch.proofs.Planning.{planned, verdict_of, refused_length}
+use Rattle.log_batch.specs.Front.{block_bytes, body_offset, batch_encoded, written_length}
+use Rattle.log_batch.proofs.Planning.{planned}
 use Rattle.log_batch.specs.Batch.{block_of, body_of, read_batch}
 use Rattle.log_batch.specs.Examples.{AllRight, table}
 use Rattle.log_batch.specs.Written.{framed, frame_of, BatchWritten, TableWritten}
 use Rattle.list_writer.specs.declared.Measured.{Measured}
-use Rattle.log_batch.proofs.Written.{list_sized, own_sized, whole, body_stands}
+use Rattle.log_batch.proofs.Written.{list_sized, own_sized, verdict_of, nothing_laid, whole, body_stands}
 use Rattle.log_batch.proofs.Again.{content_size, block_again, body_again, content_again, front_again}
 use Rattle.log_batch.proofs.Whole.{body_read}
-use Rattle.refusal.specs.declared.Reason.TheVariants.{ChecksumWrong}
+use Rattle.refusal.specs.declared.Reason.{Reason}
+use Rattle.refusal.specs.declared.Reason.TheVariants.{BlockDiffers, ChecksumWrong}
+use Rattle.refusal.specs.declared.Refusal.{Refusal}
 
 -- ---- bodies read
 
@@ -126,21 +123,21 @@ module _ {N : ℕ → List ℕ → Type 0} where
 
 module _ (body : List ℕ) (signature : ℕ) where
   -- Plain form: yes exactly when each of the body's numbers has the shortest spelling.
-  pub plain_exactly : Bytes body → (plain_body body signature ≡ plain.Yes) ↔ InPlainForm body signature
+  pub plain_exactly : Bytes body → (plain_body body signature ≡ Ok true) ↔ InPlainForm body signature
   plain_exactly bytes = (λ e. sound_plain body signature bytes e, λ f. complete_plain body signature f)
 
   -- A yes or no for an accepted body.
   pub yes_or_no : {xs : List LogItem} {rows : List EntryIndex} {u q : ℕ} → read_body body signature ≡ accepted xs rows u q
-      → (plain_body body signature ≡ plain.Yes) ⊎ (plain_body body signature ≡ plain.No)
+      → (plain_body body signature ≡ Ok true) ⊎ (plain_body body signature ≡ Ok false)
   unfolding plain_body
-  yes_or_no e = rw e (either (read_items Plain (sealed_part body)))
+  yes_or_no {xs} {rows} {u} {q} e = rw e (either (read_items Plain (sealed_part body)))
     where
-      either : (a : Answer) → (yes_no a ≡ plain.Yes) ⊎ (yes_no a ≡ plain.No)
-      either (accepted xs rows u q) = inl refl
+      either : (a : Answer) → (plain_of (accepted xs rows u q) a ≡ Ok true) ⊎ (plain_of (accepted xs rows u q) a ≡ Ok false)
+      either (accepted ys more v p) = inl refl
       either (rejected r i) = inr refl
 
   -- A refused body gets its refusal.
-  pub plain_refused : {r i : ℕ} → read_body body signature ≡ rejected r i → plain_body body signature ≡ plain.Refused (record { number = r; item = i })
+  pub plain_refused : {r : Reason} {i : ℕ} → read_body body signature ≡ rejected r i → plain_body body signature ≡ Err (record { reason = r; item = i })
   unfolding plain_body
   plain_refused e = rw e
 
@@ -148,13 +145,13 @@ module _ (body : List ℕ) (signature : ℕ) where
 -- of the same answer holds, or its refusal.
 module _ (body block : Span) where
   pub check_accepted : (xs : List LogItem) (rows : List EntryIndex) (u q : ℕ) → let t = table_of body block (accepted xs rows u q) in
-      check_of (accepted xs rows u q) ≡ check.Accepted t.item_count t.entry_count t.total t.next
+      check_of (accepted xs rows u q) ≡ Ok (record { items = t.item_count; entries = t.entry_count; total = t.total; next = t.next })
   unfolding table_of
   check_accepted xs rows u q = refl
 
-  pub check_refused : (r i : ℕ) → check_of (rejected r i) ≡ check.Refused (table_of body block (rejected r i)).refusal
+  pub check_refused : (r : Reason) (i : ℕ) {x : Refusal} → check_of (rejected r i) ≡ Err x → (table_of body block (rejected r i)).refusal ≡ Some x
   unfolding table_of
-  check_refused r i = refl
+  check_refused r i e = cc
 
 -- ---- the worked examples, and tables
 
@@ -207,63 +204,63 @@ table_right = (
 
 -- The list of an accepted answer is returned: the table has as many rows as it states, and they are the list's.
 pub list_returned : (body block : Span) (xs : List LogItem) (rows : List EntryIndex) (u q : ℕ) → let t = table_of body block (accepted xs rows u q) in
-    (take t.item_count t.items ≡ xs) × (take t.entry_count t.entries ≡ rows) × (t.total ≡ u) × (t.next ≡ q) × (t.refusal.number ≡ 0)
+    (take t.item_count t.items ≡ xs) × (take t.entry_count t.entries ≡ rows) × (t.total ≡ u) × (t.next ≡ q) × (t.refusal ≡ None)
 unfolding table_of
 list_returned body block xs rows u q = let t = in_table body block xs rows u q in (t.0, t.1, refl, refl, refl)
 
 -- A refused reading hands back an empty table.
-pub refused_empty : (body block : Span) (r i : ℕ) → table_of body block (rejected r i) ≡ empty_table r i
+pub refused_empty : (body block : Span) (r : Reason) (i : ℕ) → table_of body block (rejected r i) ≡ empty_table (Some (record { reason = r; item = i }))
 unfolding table_of
 refused_empty body block r i = refl
 
 -- ---- bodies written
 
 -- What is written of a table is spelled, with shortest numbers, by its list with its places worked out.
-module _ (checked : Bool) (t : LogItemBatch) (s : List ℕ) (signature : ℕ) (out : List ℕ) {r : Encoded} {later : List ℕ} (small : AllSmall t.items)
-    (w : BodyWritten checked t s signature out r later) (z : r.number ≡ 0) where
-  pub body_spelled : (total : ℕ) × (take r.length later ≡ body_bytes s (listed t) (table_lengths t) signature)
+module _ (checked : Bool) (t : LogItemBatch) (s : List ℕ) (signature : ℕ) (out : List ℕ) {n : ℕ} {later : List ℕ} (small : AllSmall t.items)
+    (w : BodyWritten checked t s signature out (Ok n) later) where
+  pub body_spelled : (total : ℕ) × (take n later ≡ body_bytes s (listed t) (table_lengths t) signature)
       × Spells (NumberIn Plain) (body_items s (listed t) (table_lengths t)) (body_rows (listed t) (table_lengths t)) total (list_bytes s (listed t) (table_lengths t))
   body_spelled =
-      let b = buffer_written checked t s signature out w z in
+      let b = buffer_written checked t s signature out w in
       (b.0, b.1, (written_spelled s checked (listed t) (table_lengths t) b.0 (table_small t small) b.2).0)
 
   module _ (bytes : Bytes s) (key : signature < 2 ^ 32) where
     -- Reading a written body under the same signature gives that list and the same key and content bytes.
     pub body_read_back : (total : ℕ)
-        × (read_body (take r.length later) signature
+        × (read_body (take n later) signature
         ≡ accepted (body_items s (listed t) (table_lengths t)) (body_rows (listed t) (table_lengths t)) total (length (list_bytes s (listed t) (table_lengths t))))
-        × (keys_and_contents (take r.length later) (body_items s (listed t) (table_lengths t)) ≡ keys_and_contents s (listed t))
-    body_read_back = buffer_read_back checked t s signature out small bytes key w z
+        × (keys_and_contents (take n later) (body_items s (listed t) (table_lengths t)) ≡ keys_and_contents s (listed t))
+    body_read_back = buffer_read_back checked t s signature out small bytes key w
 
     -- A written body, read under a second signature, is refused with 6 exactly when the two signatures, none being 0, differ.
-    pub second_signature : (b : ℕ) → (read_body (take r.length later) b ≡ rejected ChecksumWrong 0) ↔ (signature ≡ b → ⊥)
+    pub second_signature : (b : ℕ) → (read_body (take n later) b ≡ rejected ChecksumWrong 0) ↔ (signature ≡ b → ⊥)
     second_signature b =
-        let k = buffer_written checked t s signature out w z in
+        let k = buffer_written checked t s signature out w in
         rw k.1 (other_signature s checked (listed t) (table_lengths t) k.0 (table_small t small) k.2 bytes signature b key)
 
 -- ---- whole batches written
 
--- Where the whole-batch writer answers a length, the batch stands at the start of the buffer, and behind it what stood there before. Its content
+-- Where the whole-batch writer answers some bytes, the batch stands at the start of the buffer, and behind it what stood there before. Its content
 -- stands after the header. Where the content is bytes, all below 256, the batch reads under any signature as its body does by itself,
 -- with the entry total held to the content.
-module _ (checked : Bool) (xs : List LogItem) (ns s : List ℕ) (signature : ℕ) {items : ℕ} {content out : List ℕ} {r : Encoded} {later : List ℕ}
-    (w : BatchWritten (measure_of s checked xs ns) items content (body_bytes s xs ns signature) out r later) (h : r.length ≡ 0 → ⊥) where
+module _ (checked : Bool) (xs : List LogItem) (ns s : List ℕ) (signature : ℕ) {items : ℕ} {content out : List ℕ} {n : ℕ} {later : List ℕ}
+    (w : BatchWritten (measure_of s checked xs ns) items content (body_bytes s xs ns signature) out (Ok n) later) (h : n ≡ 0 → ⊥) where
   abbrev body : List ℕ
   body = body_bytes s xs ns signature
 
-  pub batch_stands : later ≡ framed content (body_bytes s xs ns signature) ++ drop r.length out
+  pub batch_stands : later ≡ framed content (body_bytes s xs ns signature) ++ drop n out
   batch_stands = (whole (list_sized s checked xs ns signature) w h).bytes
 
   pub content_stands : take (length content) (drop 16 later) ≡ content
-  content_stands = rw batch_stands (content_again content body (drop r.length out))
+  content_stands = rw batch_stands (content_again content body (drop n out))
 
   pub written_read : Bytes content → (b : ℕ)
       → read_batch later b
       ≡ table_of (record { at = body_offset content; len = length (body_bytes s xs ns signature) })
       (record { at = 16; len = length (block_bytes content) })
-      (agreeing (Exactly (length content)) (read_body (body_bytes s xs ns signature) b))
+      (agreeing (Some (length content)) (read_body (body_bytes s xs ns signature) b))
   written_read bytes b =
-      let t : List ℕ = drop r.length out in
+      let t : List ℕ = drop n out in
       let k = whole (list_sized s checked xs ns signature) w h in
       let long : body_offset content + length body - body_offset content ≡ length body = omega arith in
       let block : body_offset content - 16 ≡ length (block_bytes content) = omega arith in
@@ -276,10 +273,10 @@ module _ (checked : Bool) (xs : List LogItem) (ns s : List ℕ) (signature : ℕ
   -- Reading a written batch gives the list with its places worked out, its rows, and the content's length as the entry total. The numbers of
   -- the items are those of their types, below 2^64, and store and content are bytes.
   module _ (small : AllSmall xs) where
-    fine_total : list_verdict s checked xs ns ≡ fine (length content)
+    fine_total : list_verdict s checked xs ns ≡ Ok (length content)
     fine_total =
-        let k = planned (measure_of s checked xs ns) items content (length out) w.answer h in
-        verdict_of s checked xs ns k.some ∙ ap fine k.total
+        let k = planned items content (length out) (measure_of s checked xs ns) (sym w.answer) h in
+        verdict_of s checked xs ns k.1 ∙ ap Ok k.2.total
 
     pub batch_read_back : Bytes s → Bytes content → signature < 2 ^ 32
         → read_batch later signature
@@ -293,7 +290,7 @@ module _ (checked : Bool) (xs : List LogItem) (ns s : List ℕ) (signature : ℕ
     -- Each key and content has, in the body of the written batch, the bytes that it had.
     pub batch_kept : keys_and_contents (body_of (frame_of content body) later) (body_items s xs ns) ≡ keys_and_contents s xs
     batch_kept =
-        let t : List ℕ = drop r.length out in
+        let t : List ℕ = drop n out in
         ap (λ (l : List ℕ). keys_and_contents (body_of (frame_of content body) l) (body_items s xs ns)) batch_stands
         ∙ ap (λ (l : List ℕ). keys_and_contents l (body_items s xs ns)) (body_again content body t)
         ∙ written_kept s checked xs ns (length content) small fine_total signature
@@ -303,58 +300,55 @@ module _ (checked : Bool) (xs : List LogItem) (ns s : List ℕ) (signature : ℕ
 -- What any writer writes of a list, where its measure is the list's own unless it is refused: read under a second signature, it is refused
 -- with 6 exactly when the two signatures, none being 0, differ. The numbers of the items are below 2^64, store and content are bytes.
 module _ (s : List ℕ) (checked : Bool) (xs : List LogItem) (ns : List ℕ) (small : AllSmall xs) (store : Bytes s) (signature b : ℕ) (key : signature < 2 ^ 32)
-    {m : Measured} (own : (m.length ≡ 0 → ⊥) → m ≡ measure_of s checked xs ns) {out : List ℕ} {r : Encoded} {later : List ℕ} (h : r.length ≡ 0 → ⊥) where
+    {m : Result Measured Refusal} (own : (k : Measured) → m ≡ Ok k → measure_of s checked xs ns ≡ Ok k) {out : List ℕ} {n : ℕ} {later : List ℕ} where
   -- A body, at the place where it was written.
-  pub body_under_another : (at : ℕ) → MeasuredWritten m (body_bytes s xs ns signature) out at r later
-      → (read_body (take r.length (drop at later)) b ≡ rejected ChecksumWrong 0) ↔ (signature ≡ b → ⊥)
+  pub body_under_another : (at : ℕ) → MeasuredWritten m (body_bytes s xs ns signature) out at (Ok n) later
+      → (read_body (take n (drop at later)) b ≡ rejected ChecksumWrong 0) ↔ (signature ≡ b → ⊥)
   body_under_another at w =
-      let k = body_stands (own_sized s checked xs ns signature own) w h in
-      let fine_list = verdict_of s checked xs ns (rw (own k.0) at k.0) in
-      rw k.1 (other_signature s checked xs ns _ small fine_list store signature b key)
+      let k = body_stands (own_sized s checked xs ns signature own) w in
+      let fine_list = verdict_of s checked xs ns (own _ k.1) in
+      rw k.2 (other_signature s checked xs ns _ small fine_list store signature b key)
 
   -- A whole batch, at the start of the buffer.
-  pub batch_under_another : {items : ℕ} {content : List ℕ} → Bytes content → BatchWritten m items content (body_bytes s xs ns signature) out r later
-      → (read_batch later b ≡ empty_table 6 0) ↔ (signature ≡ b → ⊥)
+  pub batch_under_another : {items : ℕ} {content : List ℕ} → (n ≡ 0 → ⊥) → Bytes content → BatchWritten m items content (body_bytes s xs ns signature) out (Ok n) later
+      → (read_batch later b ≡ empty_table (Some (record { reason = ChecksumWrong; item = 0 }))) ↔ (signature ≡ b → ⊥)
   unfolding table_of
-  batch_under_another {items} {content} bytes v =
-      let w = rw (own (planned m items content (length out) v.answer h).some) at v in
+  batch_under_another {items} {content} h bytes v =
+      let k = planned items content (length out) m (sym v.answer) h in
+      let same : m ≡ measure_of s checked xs ns = k.1 ∙ sym (own _ k.1) in
+      let w = rw same at v in
       let total = fine_total checked xs ns s signature w h small in
       let other = other_signature s checked xs ns (length content) small total store signature b key in
       let read = written_read checked xs ns s signature w h bytes b in
       let back = batch_read_back checked xs ns s signature w h small store bytes key in (
-        λ e same. let z : ◌≡◌ {A = ℕ} 0 6 = ap (λ (t : LogItemBatch). t.refusal.number) (sym back ∙ ap (read_batch later) same ∙ e) in omega arith,
+        λ e same. let z = ap (λ (t : LogItemBatch). is_some t.refusal) (sym back ∙ ap (read_batch later) same ∙ e) in cc,
         λ differ. read ∙ (rw (other.1 differ)),
       )
 
 -- So of what LogBatch::encode and its unchecked form write of a table.
-pub batch_second_signature : (checked : Bool) (t : LogItemBatch) (s content : List ℕ) (signature : ℕ) (out : List ℕ) {r : Encoded} {later : List ℕ} → AllSmall t.items
-    → TableWritten checked t s content signature out r later → (r.length ≡ 0 → ⊥) → Bytes s → Bytes content → signature < 2 ^ 32
-    → (b : ℕ) → (read_batch later b ≡ empty_table 6 0) ↔ (signature ≡ b → ⊥)
+pub batch_second_signature : (checked : Bool) (t : LogItemBatch) (s content : List ℕ) (signature : ℕ) (out : List ℕ) {n : ℕ} {later : List ℕ} → AllSmall t.items
+    → TableWritten checked t s content signature out (Ok n) later → (n ≡ 0 → ⊥) → Bytes s → Bytes content → signature < 2 ^ 32
+    → (b : ℕ) → (read_batch later b ≡ empty_table (Some (record { reason = ChecksumWrong; item = 0 }))) ↔ (signature ≡ b → ⊥)
 batch_second_signature checked t s content signature out small w h store bytes key b =
-    batch_under_another s checked (listed t) (table_lengths t) (table_small t small) store signature b key (λ _. refl) h bytes w
+    batch_under_another s checked (listed t) (table_lengths t) (table_small t small) store signature b key (λ k e. e) h bytes w
 
 -- ---- refused, and nothing to write
 
 -- A refused write of a body changes no lent byte.
-pub refused_body_kept : (checked : Bool) (t : LogItemBatch) (s : List ℕ) (signature : ℕ) {out : List ℕ} {r : Encoded} {later : List ℕ}
-    → BodyWritten checked t s signature out r later → (r.number ≡ 0 → ⊥) → later ≡ out
-refused_body_kept checked t s signature {out} {r} {later} w h =
-    go (encodes s checked (listed t) (table_lengths t) signature out 0 w)
-  where
-    go : Encodes s checked (listed t) (table_lengths t) signature out 0 r later → later ≡ out
-    go (writes z v long e) = absurd (h z)
-    go (leaves some same) = same
-
--- Where the answer has no length, the buffer is as it was.
-pub batch_absent : {m : Measured} {items : ℕ} {content body out : List ℕ} {r : Encoded} {later : List ℕ} → BatchWritten m items content body out r later
-    → r.length ≡ 0 → later ≡ out
+pub refused_body_kept : (checked : Bool) (t : LogItemBatch) (s : List ℕ) (signature : ℕ) {out : List ℕ} {x : Refusal} {later : List ℕ}
+    → BodyWritten checked t s signature out (Err x) later → later ≡ out
 unfolding laid
-batch_absent {r = r} w h = w.written ∙ (rw (eq-eqb r.length 0 h))
+refused_body_kept checked t s signature w = w.written
+
+-- Where the answer is no bytes, the buffer is as it was.
+pub batch_absent : {m : Result Measured Refusal} {items : ℕ} {content body out : List ℕ} {r : Result ℕ Refusal} {later : List ℕ} → BatchWritten m items content body out r later
+    → written_length r ≡ 0 → later ≡ out
+batch_absent {out = out} {r = r} w h = w.written ∙ nothing_laid r h out _ 0
 
 -- So a refused write of a whole batch changes no lent byte either.
-pub refused_batch_kept : {m : Measured} {items : ℕ} {content body out : List ℕ} {r : Encoded} {later : List ℕ} → BatchWritten m items content body out r later
-    → (r.number ≡ 0 → ⊥) → later ≡ out
-refused_batch_kept {m} {items} {content} {out = out} w h = batch_absent w (refused_length m items content (length out) w.answer h)
+pub refused_batch_kept : {m : Result Measured Refusal} {items : ℕ} {content body out : List ℕ} {x : Refusal} {later : List ℕ}
+    → BatchWritten m items content body out (Err x) later → later ≡ out
+refused_batch_kept w = batch_absent w refl
 
 -- The body writer given no items writes count 0 and the footer: these five bytes,
 module _ (s ns : List ℕ) where
@@ -365,27 +359,27 @@ module _ (s ns : List ℕ) where
   pub none_length : (signature : ℕ) → length (body_bytes s [] ns signature) ≡ 5
   none_length signature = ap length (none_bytes signature) ∙ ap suc (length_little 4 (bit_xor (crc_of (0 ∷ [])) signature))
 
-  pub none_measured : (checked : Bool) → measure_of s checked [] ns ≡ measured 0 0 5 0
+  pub none_measured : (checked : Bool) → measure_of s checked [] ns ≡ Ok (measured 5 0)
   unfolding measure_of measured_of list_verdict items_verdict list_bytes items_bytes shortest spell
   none_measured checked = refl
 
 -- and the buffer keeps all else.
-pub no_items : (checked : Bool) (t : LogItemBatch) (s : List ℕ) (signature : ℕ) {out : List ℕ} {r : Encoded} {later : List ℕ}
+pub no_items : (checked : Bool) (t : LogItemBatch) (s : List ℕ) (signature : ℕ) {out : List ℕ} {r : Result ℕ Refusal} {later : List ℕ}
     → BodyWritten checked t s signature out r later → t.item_count ≡ 0 → 5 ≤ length out
-    → (r ≡ encoded 0 0 5) × (later ≡ 0 ∷ little_endian_bytes 4 (bit_xor (crc_of (0 ∷ [])) signature) ++ drop 5 out)
+    → (r ≡ Ok 5) × (later ≡ 0 ∷ little_endian_bytes 4 (bit_xor (crc_of (0 ∷ [])) signature) ++ drop 5 out)
 unfolding items_of encoded_of laid
 no_items checked t s signature {out} {r} w z room =
     let none : listed t ≡ [] = ap (items_of t.items) z in
-    let answer : r ≡ encoded 0 0 5 = w.answer ∙ (rw (none, none_measured s (table_lengths t) checked, le-leb 5 (length out) room)) in
+    let answer : r ≡ Ok 5 = w.answer ∙ (rw (none, none_measured s (table_lengths t) checked, le-leb 5 (length out) room)) in
     (answer, w.written ∙ (rw (answer, none, none_bytes s (table_lengths t) signature, length_little, le-leb 5 (length out) room)))
 
--- The whole-batch writer given no items and no content writes nothing and answers length 0. No items with content is 20.
+-- The whole-batch writer given no items and no content writes nothing and answers 0. No items with content is 20.
 module _ (s ns : List ℕ) (checked : Bool) (room : ℕ) where
-  pub none_written : batch_encoded (measure_of s checked [] ns) 0 [] room ≡ encoded 0 0 0
+  pub none_written : batch_encoded (measure_of s checked [] ns) 0 [] room ≡ Ok 0
   unfolding batch_encoded
   none_written = refl
 
-  pub content_alone : (b : ℕ) (bs : List ℕ) → batch_encoded (measure_of s checked [] ns) 0 (b ∷ bs) room ≡ encoded 20 0 0
+  pub content_alone : (b : ℕ) (bs : List ℕ) → batch_encoded (measure_of s checked [] ns) 0 (b ∷ bs) room ≡ refused BlockDiffers 0
   unfolding batch_encoded measure_of measured_of list_verdict items_verdict list_bytes items_bytes shortest spell
   content_alone b bs =
       let some : length (b ∷ bs) ≡ 0 → ⊥ = λ z. omega arith in

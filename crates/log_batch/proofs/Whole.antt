@@ -1,6 +1,8 @@
 -- What document 01 says of whole batches that are read, proved of the definitions that the contracts cite.
 -- Assumes nothing.
-use Rattle.std.proofs.Common.{◌≡◌, ℕ, ◌+◌, ◌-◌, ◌≤◌, ◌↔◌, List, ◌++◌, length, take, drop, refl, ap, ap₂, arith, length-append, length-drop, eq-eqb, le-leb}
+use Rattle.std.proofs.Common.{◌≡◌, ℕ, ◌+◌, ◌-◌, ◌≤◌, Bool, true, false, cond, eqb, ◌↔◌, List, ◌++◌, length, take, drop, Some, None, refl, ap, ap₂, arith, length-append, length-drop, eq-eqb, eqb-true, le-leb}
+use Rattle.refusal.specs.declared.Refusal.{Refusal}
+use Rattle.refusal.specs.declared.Reason.TheVariants.{BlockDiffers}
 use lib.Seq.{take-append-le, drop-append-le}
 use Rattle.words.specs.Word.{big_endian}
 use Rattle.log_batch.specs.Seal.{sealed_length}
@@ -10,48 +12,59 @@ use Rattle.log_item.specs.declared.LogItem.{LogItem}
 use Rattle.log_item.specs.declared.EntryIndex.{EntryIndex}
 use Rattle.log_batch.specs.Reading.{accepted, rejected, Answer}
 use Rattle.log_batch.specs.Body.{read_body}
-use Rattle.log_batch.specs.declared.Wanted.TheVariants.{Exactly}
 use Rattle.log_batch.specs.Total.{agreeing}
 use Rattle.log_batch.specs.Table.{table_of, empty_table}
 use Rattle.log_batch.specs.declared.LogBatch.{LogBatch}
 use Rattle.log_batch.specs.Header.{frame, header}
 use Rattle.log_batch.specs.Batch.{block_of, body_of, front_batch, batch_answer, body_place, block_place, read_batch}
-use Rattle.log_batch.proofs.NonZero.{refusal_some, front_some, total_agrees}
 use Rattle.log_batch.proofs.Frames.{header_known, front_known}
 
+-- A table with no refusal is that of an accepted answer with the entry total that is wanted.
+module _ (body block : Span) (n : ℕ) where
+  same : (xs : List LogItem) (rows : List EntryIndex) (u q : ℕ) (b : Bool) → eqb u n ≡ b
+      → (table_of body block (cond b (accepted xs rows u q) (rejected BlockDiffers 0))).refusal ≡ None → u ≡ n
+  unfolding table_of
+  same xs rows u q true e z = eqb-true u n e
+  same xs rows u q false e z = cc
+
+  total_agrees : (a : Answer) → (table_of body block (agreeing (Some n) a)).refusal ≡ None
+      → (xs : List LogItem) × (rows : List EntryIndex) × (q : ℕ) × (a ≡ accepted xs rows n q)
+  unfolding table_of
+  total_agrees (accepted xs rows u q) z = (xs, rows, q, ap (λ (k : ℕ). accepted xs rows k q) (same xs rows u q (eqb u n) refl z))
+  total_agrees (rejected r i) z = cc
+
 module _ (s : List ℕ) (signature : ℕ) where
-  -- What a refused reading hands back is the empty table with its number and item.
-  pub refused_batch_empty : let t = read_batch s signature in (t.refusal.number ≡ 0 → ⊥) → t ≡ empty_table t.refusal.number t.refusal.item
+  -- What a refused reading hands back is the empty table with its refusal.
+  pub refused_batch_empty : {x : Refusal} → (read_batch s signature).refusal ≡ Some x → read_batch s signature ≡ empty_table (Some x)
   unfolding read_batch table_of
-  refused_batch_empty = let g = front_batch s 0 in empty (body_place g) (block_place g) (batch_answer s signature g)
+  refused_batch_empty {x} = let g = front_batch s 0 in empty (body_place g) (block_place g) (batch_answer s signature g)
     where
-      empty : (body block : Span) (a : Answer) → let t = table_of body block a in (t.refusal.number ≡ 0 → ⊥) → t ≡ empty_table t.refusal.number t.refusal.item
-      empty body block (accepted xs rows u q) h = absurd (h refl)
-      empty body block (rejected r i) h = refl
+      empty : (body block : Span) (a : Answer) → (table_of body block a).refusal ≡ Some x → table_of body block a ≡ empty_table (Some x)
+      empty body block (accepted xs rows u q) h = cc
+      empty body block (rejected r i) h = ap empty_table h
 
   -- The body of a whole batch is read as it is by itself; then its entry total is held to the block's content.
   pub body_read : {h : LogBatch} {q : ℕ} → front_batch s 0 ≡ got h q
       → read_batch s signature ≡ table_of (record { at = h.offset; len = h.len - h.offset }) (record { at = 16; len = h.offset - 16 })
-      (agreeing (Exactly (sealed_length (block_of h s))) (read_body (body_of h s) signature))
+      (agreeing (Some (sealed_length (block_of h s))) (read_body (body_of h s) signature))
   unfolding read_batch
   body_read e = rw e
 
-  -- A whole batch is accepted, so that its number is 0, exactly when header, length, compression type and block are right and its body, its checksum
+  -- A whole batch is accepted, so that it has no refusal, exactly when header, length, compression type and block are right and its body, its checksum
   -- with it, is accepted with an entry total that is the length of the block's content.
   pub batch_exactly :
-      ((read_batch s signature).refusal.number ≡ 0)
+      ((read_batch s signature).refusal ≡ None)
       ↔ ((h : LogBatch) × (q : ℕ) × (front_batch s 0 ≡ got h q)
       × ((xs : List LogItem) × (rows : List EntryIndex) × (p : ℕ) × (read_body (body_of h s) signature ≡ accepted xs rows (sealed_length (block_of h s)) p)))
   unfolding read_batch table_of
   batch_exactly = (λ z. only (front_batch s 0) refl z, λ k. rw (k.2, k.3.3, eq-eqb (sealed_length (block_of k.0 s)) (sealed_length (block_of k.0 s)) refl))
     where
-      only : (g : Got LogBatch) → front_batch s 0 ≡ g → (table_of (body_place g) (block_place g) (batch_answer s signature g)).refusal.number ≡ 0
+      only : (g : Got LogBatch) → front_batch s 0 ≡ g → (table_of (body_place g) (block_place g) (batch_answer s signature g)).refusal ≡ None
           → (h : LogBatch) × (q : ℕ) × (front_batch s 0 ≡ got h q)
           × ((xs : List LogItem) × (rows : List EntryIndex) × (p : ℕ) × (read_body (body_of h s) signature ≡ accepted xs rows (sealed_length (block_of h s)) p))
-      only (refused r) e z = absurd (front_some s e z)
+      only (refused r) e z = cc
       only (got h q) e z =
-          let k =
-          total_agrees (body_place (got h q)) (block_place (got h q)) (sealed_length (block_of h s)) (read_body (body_of h s) signature) (λ r i f. refusal_some (body_of h s) signature f) z in
+          let k = total_agrees (body_place (got h q)) (block_place (got h q)) (sealed_length (block_of h s)) (read_body (body_of h s) signature) z in
           (h, q, e, k)
 
 -- Bytes past the length are not looked at.

@@ -1,12 +1,14 @@
 -- What the whole-batch writer answers to a measured body, and what it leaves before it in the buffer: header, block.
 -- Assumes nothing.
-use Rattle.std.specs.Prelude.{◌≡◌, ℕ, ◌+◌, ◌*◌, cond, not, ◌&&◌, List, [], ◌++◌, length, ◌==◌, nat_le}
-use Rattle.refusal.specs.First.{◌else◌, ◌>>◌}
+use Rattle.std.specs.Prelude.{◌≡◌, ℕ, ◌+◌, ◌*◌, cond, not, ◌&&◌, List, [], ◌++◌, length, ◌==◌, nat_le, Result, Ok, Err}
+use Rattle.refusal.specs.First.{◌else◌, ◌>>◌, ◌>>=◌}
+use Rattle.refusal.specs.declared.Reason.TheVariants.{BlockDiffers, OutputShort, OutputTooLong}
+use Rattle.refusal.specs.declared.Refusal.{Refusal}
 use Rattle.words.specs.Word.{big_endian_bytes}
 use Rattle.list_writer.specs.declared.Measured.{Measured}
-use Rattle.list_writer.specs.declared.Encoded.{Encoded}
 use Rattle.list_writer.specs.Bytes.{footed}
-use Rattle.list_writer.specs.Answers.{encoded, laid}
+use Rattle.list_writer.specs.Refusing.{refused}
+use Rattle.list_writer.specs.Answers.{laid}
 
 -- empty, or content and its unsigned checksum: the footer under signature 0
 unfoldable pub block_bytes : List ℕ → List ℕ
@@ -25,23 +27,33 @@ unfoldable pub front_bytes : ℕ → List ℕ → List ℕ
 front_bytes len content = header_bytes len (body_offset content) ++ block_bytes content
 
 -- nothing where there are no items and no content; else the body's refusals and its 22, 22 for the entry total, 20, 21
-unfoldable pub batch_encoded : Measured → ℕ → List ℕ → ℕ → Encoded
+unfoldable pub batch_encoded : Result Measured Refusal → ℕ → List ℕ → ℕ → Result ℕ Refusal
 batch_encoded m items content room = do
-  not (items == 0 && length content == 0) else encoded 0 0 0
-  not (m.length == 0) else encoded m.number m.item 0
-  nat_le m.total 2147483647 else encoded 22 0 0
-  (m.total == length content) else encoded 20 0 0
-  nat_le (body_offset content + m.length) room else encoded 21 0 0
-  encoded 0 0 (body_offset content + m.length)
+  not (items == 0 && length content == 0) else Ok 0
+  b ← m
+  nat_le b.total 2147483647 else refused OutputTooLong 0
+  (b.total == length content) else refused BlockDiffers 0
+  nat_le (body_offset content + b.length) room else refused OutputShort 0
+  Ok (body_offset content + b.length)
+
+-- the length of a body that is not refused
+abbrev pub measured_length : Result Measured Refusal → ℕ
+measured_length (Ok b) = b.length
+measured_length (Err r) = 0
 
 -- the same for a measure of any length: no body has more than 4294967295 bytes
-unfoldable pub front_encoded : Measured → ℕ → List ℕ → ℕ → Encoded
+unfoldable pub front_encoded : Result Measured Refusal → ℕ → List ℕ → ℕ → Result ℕ Refusal
 front_encoded m items content room = do
-  nat_le m.length 4294967295 else encoded 22 0 0
+  nat_le (measured_length m) 4294967295 else refused OutputTooLong 0
   batch_encoded m items content room
+
+-- how many bytes an answer says that a batch has; a refused one has none
+abbrev pub written_length : Result ℕ Refusal → ℕ
+written_length (Ok n) = n
+written_length (Err r) = 0
 
 -- the answer r to a body of the measure m, and the later contents of out: header and block, then what stood there; out as it was where
 -- nothing is written
-pub record FrontWritten (m : Measured) (items : ℕ) (content out : List ℕ) (r : Encoded) (later : List ℕ) : Type 0 where
+pub record FrontWritten (m : Result Measured Refusal) (items : ℕ) (content out : List ℕ) (r : Result ℕ Refusal) (later : List ℕ) : Type 0 where
   pub answer : r ≡ front_encoded m items content (length out)
-  pub front : later ≡ laid r out 0 (front_bytes r.length content)
+  pub front : later ≡ laid r out 0 (front_bytes (written_length r) content)

@@ -7,12 +7,13 @@ use Rattle.log_item.specs.Pieces.{number}
 use Rattle.log_item.specs.declared.Form.{Form}
 use Rattle.log_item.specs.declared.LogItem.{LogItem}
 use Rattle.log_item.specs.declared.EntryIndex.{EntryIndex}
+use Rattle.refusal.specs.declared.Reason.{Reason}
 use Rattle.refusal.specs.declared.Reason.TheVariants.{ItemsTooMany}
 
--- items, their rows, the entry total and the place after the last item; or a refusal's number and its item
+-- items, their rows, the entry total and the place after the last item; or why it is refused, and in which item
 pub data Answer : Type 0 where
   accepted : List LogItem → List EntryIndex → ℕ → ℕ → Answer
-  rejected : ℕ → ℕ → Answer
+  rejected : Reason → ℕ → Answer
 
 -- an item and its rows, in front of what follows
 abbrev pub before : LogItem → List EntryIndex → Answer → Answer
@@ -22,12 +23,12 @@ before x rows (rejected r i) = rejected r i
 -- an item and what follows it; a refusal in the item has the item's number i
 abbrev pub in_front : ℕ → Got Read → (Read → ℕ → Answer) → Answer
 in_front i (got r q) f = before r.item r.rows (f r q)
-in_front i (refused n) f = rejected n i
+in_front i (refused r) f = rejected r i
 
 -- outside items a refusal has item 0
 abbrev pub counted : Got ℕ → (ℕ → ℕ → Answer) → Answer
 counted (got k q) f = f k q
-counted (refused n) f = rejected n 0
+counted (refused r) f = rejected r 0
 
 module _ (form : Form) (s : List ℕ) where
   -- k items, the first of them with number i, with e entries and the total t before it

@@ -1,8 +1,9 @@
 -- The table that holds an answer: rows in order, the others blank. A refused reading is the empty table with its refusal.
 -- Assumes nothing.
-use Rattle.std.specs.Prelude.{ℕ, ◌-◌, List, ◌++◌, length, replicate}
+use Rattle.std.specs.Prelude.{ℕ, ◌-◌, List, ◌++◌, length, replicate, Option, Some, None}
 use Rattle.log_item.specs.Blank.{blank_item, blank_entry}
 use Rattle.log_item.specs.declared.Span.{Span}
+use Rattle.refusal.specs.declared.Refusal.{Refusal}
 use Rattle.log_batch.specs.declared.LogItemBatch.{LogItemBatch}
 use Rattle.log_batch.specs.Reading.{Answer, accepted, rejected}
 
@@ -10,8 +11,9 @@ use Rattle.log_batch.specs.Reading.{Answer, accepted, rejected}
 abbrev pub pad : {A : Type 0} → A → ℕ → List A → List A
 pad z n xs = xs ++ replicate (n - length xs) z
 
-abbrev pub empty_table : ℕ → ℕ → LogItemBatch
-empty_table r i =
+-- no rows
+abbrev pub empty_table : Option Refusal → LogItemBatch
+empty_table refusal =
     record {
       items = replicate 256 blank_item;
       item_count = 0;
@@ -21,7 +23,7 @@ empty_table r i =
       next = 0;
       body = record { at = 0; len = 0 };
       block = record { at = 0; len = 0 };
-      refusal = record { number = r; item = i };
+      refusal = refusal;
     }
 
 -- the table of an answer, with the places of body and block in the bytes that were read
@@ -36,9 +38,9 @@ table_of body block (accepted xs rows u q) =
       next = q;
       body = body;
       block = block;
-      refusal = record { number = 0; item = 0 };
+      refusal = None;
     }
-table_of body block (rejected r i) = empty_table r i
+table_of body block (rejected r i) = empty_table (Some (record { reason = r; item = i }))
 
 -- the table of a body by itself: it stands at 0, and there is no block
 abbrev pub body_table : List ℕ → Answer → LogItemBatch

@@ -1,6 +1,6 @@
 -- What writing a table's items as a body answers, what it leaves in the buffer, and the list that is read back.
 -- Assumes nothing.
-use Rattle.std.specs.Prelude.{ℕ, ◌+◌, Bool, List, [], ◌∷◌, ◌++◌, map, length, drop}
+use Rattle.std.specs.Prelude.{ℕ, ◌+◌, Bool, List, [], ◌∷◌, ◌++◌, map, length, drop, Result}
 use Rattle.codec.specs.Shortest.{shortest}
 use Rattle.log_item.specs.Entries.{entries_of}
 use Rattle.log_item.specs.Prefix.{bytes_of}
@@ -9,7 +9,7 @@ use Rattle.log_item.specs.declared.EntryIndex.{EntryIndex}
 use Rattle.log_item.specs.Written as item
 use Rattle.log_item.specs.Each.{Each}
 use Rattle.log_item.specs.Relocated.{item_at, item_rows_of, spans_of, numbers_of, Small}
-use Rattle.list_writer.specs.declared.Encoded.{Encoded}
+use Rattle.refusal.specs.declared.Refusal.{Refusal}
 use Rattle.list_writer.specs.Bytes.{items_of, lengths_of, body_bytes}
 use Rattle.list_writer.specs.Answers.{measure_of, MeasuredWritten}
 use Rattle.log_batch.specs.declared.LogItemBatch.{LogItemBatch}
@@ -22,7 +22,7 @@ abbrev pub table_lengths : LogItemBatch → List ℕ
 table_lengths t = lengths_of t.entries t.entry_count
 
 -- the answer r and the later contents of out: the body's bytes, then what stood there; out as it was where the body is refused
-abbrev pub BodyWritten : Bool → LogItemBatch → List ℕ → ℕ → List ℕ → Encoded → List ℕ → Type 0
+abbrev pub BodyWritten : Bool → LogItemBatch → List ℕ → ℕ → List ℕ → Result ℕ Refusal → List ℕ → Type 0
 BodyWritten checked t store signature out r later =
     MeasuredWritten (measure_of store checked (listed t) (table_lengths t)) (body_bytes store (listed t) (table_lengths t) signature) out 0 r later
 

@@ -1,133 +1,96 @@
 // What a body holds, without a table: reading it item by item, and whether each of its numbers has the shortest spelling. From log_batch.rs,
 // LogItemBatch::decode.
 ghost use Rattle.std.specs.Prelude.{◌≡◌};
-ghost use Rattle.log_item.specs.Answers.{field_got};
+ghost use Rattle.words.specs.Got.{got_of};
 ghost use Rattle.log_batch.specs.Reading.{items, count, read_items};
 ghost use Rattle.log_batch.specs.Body.{read_body};
 ghost use Rattle.log_batch.specs.Answers.{check_of, plain_body};
 
 use crate::seal::check_seal;
-use crate::{BodyCheck, LogBatch, PlainForm};
-use log_item::{Field, Form, LogItem, Passed};
-use refusal::Refusal;
-
-// What Form::Plain alone refuses, by the definitions' number. Document 01 has no such number, and no caller of this crate sees it: plain
-// answers No.
-const NOT_SHORTEST: u32 = 8;
+use crate::{BodyCheck, LogBatch, outside};
+use log_item::{Form, LogItem, NotPassed};
+use refusal::{Reason, Refusal};
+use words::Piece;
 
 // What a body without its footer holds, with no table.
-pub fn check_items(buf: &[u8]) -> BodyCheck
+pub fn check_items(buf: &[u8]) -> Result<BodyCheck, Refusal>
     ensures { result ≡ check_of (read_items Form.Any buf.now) }
 {
     check_form(buf, Form::Any)
 }
 
 // What a body with its footer holds, under a signature, with no table.
-pub fn check(body: &[u8], signature: u32) -> BodyCheck
+#[tactic(auto, unfolding(crate::specs::Body::read_body), using(crate::proofs::Sealing::seal_long))]
+pub fn check(body: &[u8], signature: u32) -> Result<BodyCheck, Refusal>
     ensures { result ≡ check_of (read_body body.now signature) }
 {
-    let broken = check_seal(body, signature);
-    if broken != refusal::NONE {
-        return BodyCheck::Refused(Refusal {
-            number: broken,
-            item: 0,
-        });
-    }
+    check_seal(body, signature).map_err(outside)?;
     let n = body.len() - LogBatch::CHECKSUM_LEN;
     check_form(&body[..n], Form::Any)
 }
 
 // Whether each number of a body has its shortest spelling.
-pub fn plain(body: &[u8], signature: u32) -> PlainForm
+#[tactic(auto, unfolding(crate::specs::Answers::plain_body), using(crate::proofs::Checking::accepted_long))]
+pub fn plain(body: &[u8], signature: u32) -> Result<bool, Refusal>
     ensures { result ≡ plain_body body.now signature }
 {
-    match check(body, signature) {
-        BodyCheck::Refused(refusal) => PlainForm::Refused(refusal),
-        BodyCheck::Accepted {
-            items: _,
-            entries: _,
-            total: _,
-            next: _,
-        } => {
-            let n = body.len() - LogBatch::CHECKSUM_LEN;
-            match check_form(&body[..n], Form::Plain) {
-                BodyCheck::Accepted {
-                    items: _,
-                    entries: _,
-                    total: _,
-                    next: _,
-                } => PlainForm::Yes,
-                BodyCheck::Refused(_) => PlainForm::No,
-            }
-        }
-    }
+    check(body, signature)?;
+    let n = body.len() - LogBatch::CHECKSUM_LEN;
+    Ok(check_form(&body[..n], Form::Plain).is_ok())
 }
 
 // What a body without its footer holds, where its numbers are asked for in a form.
-fn check_form(buf: &[u8], form: Form) -> BodyCheck
+#[tactic(auto, unfolding(crate::specs::Reading::read_items))]
+fn check_form(buf: &[u8], form: Form) -> Result<BodyCheck, Refusal>
     ensures { result ≡ check_of (read_items form buf.now) }
 {
-    match read_item_count(buf, form) {
-        Field::Done { value, next } => check_from(buf, next, value as usize, form),
-        Field::Refused(number) => BodyCheck::Refused(Refusal { number, item: 0 }),
-    }
+    let count = read_item_count(buf, form).map_err(outside)?;
+    check_from(buf, count.next, count.value as usize, form)
 }
 
 // How many items a body without its footer says that it has.
-pub(crate) fn read_item_count(buf: &[u8], form: Form) -> Field
-    ensures { field_got result ≡ count form buf.now 0 }
+#[tactic(auto, unfolding(crate::specs::Reading::count, log_item::specs::Pieces::number))]
+pub(crate) fn read_item_count(buf: &[u8], form: Form) -> Result<Piece<u64>, Reason>
+    ensures { got_of result ≡ count form buf.now 0 }
 {
-    match log_item::read_number(buf, 0) {
-        Field::Done { value, next } => {
-            if let Form::Plain = form {
-                if next != codec::var_u64_len(value) {
-                    return Field::Refused(NOT_SHORTEST);
-                }
-            }
-            if 256 < value {
-                return Field::Refused(refusal::ITEMS_TOO_MANY);
-            }
-            Field::Done { value, next }
+    let count = log_item::read_number(buf, 0)?;
+    if let Form::Plain = form {
+        if count.next != codec::var_u64_len(count.value) {
+            return Err(Reason::NotShortest);
         }
-        Field::Refused(number) => Field::Refused(number),
     }
+    if 256 < count.value {
+        return Err(Reason::ItemsTooMany);
+    }
+    Ok(count)
 }
 
 // What `count` items from a place on hold, with nothing before them.
-fn check_from(buf: &[u8], start: usize, count: usize, form: Form) -> BodyCheck
+fn check_from(buf: &[u8], start: usize, count: usize, form: Form) -> Result<BodyCheck, Refusal>
     ensures { result ≡ check_of (items form buf.now count 0 0 0 start) }
 {
-    let mut i: usize = 0;
     let mut at = start;
     let mut total: u32 = 0;
     let mut used: usize = 0;
-    while i < count {
+    for i in 0..count {
         match LogItem::pass(buf, at, total, used, form) {
-            Passed::Done {
-                next,
-                total: after,
-                used: entries,
-            } => {
-                at = next;
-                total = after;
-                used = entries;
-                i += 1;
+            Ok(passed) => {
+                at = passed.next;
+                total = passed.value.total;
+                used = passed.value.used;
             }
-            Passed::Refused(number) => {
-                return BodyCheck::Refused(Refusal { number, item: i });
-            }
-            Passed::Padded => {
-                return BodyCheck::Refused(Refusal {
-                    number: NOT_SHORTEST,
-                    item: i,
-                });
+            Err(NotPassed::Refused(reason)) => return Err(Refusal { reason, item: i }),
+            // no caller of this crate sees this reason: plain answers false
+            Err(NotPassed::Padded) => {
+                let reason = Reason::NotShortest;
+                return Err(Refusal { reason, item: i });
             }
         }
     }
-    BodyCheck::Accepted {
+    Ok(BodyCheck {
         items: count,
         entries: used,
         total,
         next: at,
-    }
+    })
 }

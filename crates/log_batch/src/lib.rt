@@ -15,18 +15,16 @@ ghost use Rattle.log_batch.specs.Batch.{front_batch, read_batch};
 ghost use Rattle.log_batch.specs.Written.{TableWritten};
 
 pub use body::{check, check_items, plain};
-use codec::U64Read;
 pub use front::begin;
-pub use list_writer::Encoded;
 use log_item::{EntryIndex, LogItem, Span};
-use refusal::Refusal;
+use refusal::{Reason, Refusal};
 use seal::check_block;
 pub use seal::{check_seal, sealed_len};
 pub use table::read_items;
 pub use view::{check_entry, entry_view};
 
 // What a body holds: the first item_count rows of items and entry_count rows of entries; rows past them are blank. Keys and contents
-// are spans of the body. A refused reading has no rows, and its refusal's number is not 0.
+// are spans of the body. A refused reading has no rows.
 #[derive(Clone, Copy)]
 pub struct LogItemBatch {
     pub items: [LogItem; 256],
@@ -39,34 +37,16 @@ pub struct LogItemBatch {
     // where body and block stand in the bytes that were read; 0 0 where there is none
     pub body: Span,
     pub block: Span,
-    pub refusal: Refusal,
+    pub refusal: Option<Refusal>,
 }
 
-// The entry total that a reading must come to: any, or the length of the block's content.
+// How much a body holds, with no table: numbers of items and entries, the entry total and the place after the last item.
 #[derive(Clone, Copy)]
-pub enum Wanted {
-    Free,
-    Exactly(usize),
-}
-
-// How much a body holds, with no table: numbers of items and entries, the entry total and the place after the last item; or its refusal.
-#[derive(Clone, Copy)]
-pub enum BodyCheck {
-    Accepted {
-        items: usize,
-        entries: usize,
-        total: u32,
-        next: usize,
-    },
-    Refused(Refusal),
-}
-
-// Whether each number of a body has its shortest spelling; a refused body has its refusal.
-#[derive(Clone, Copy)]
-pub enum PlainForm {
-    Yes,
-    No,
-    Refused(Refusal),
+pub struct BodyCheck {
+    pub items: usize,
+    pub entries: usize,
+    pub total: u32,
+    pub next: usize,
 }
 
 // What a mark says of its group of batches.
@@ -77,12 +57,11 @@ pub enum AtomicGroupStatus {
     End,
 }
 
-// The status that an item marks and the group's number; or that it is no mark; or why it is refused.
+// The status that an item marks, and the group's number.
 #[derive(Clone, Copy)]
-pub enum StatusRead {
-    Mark { id: u64, status: AtomicGroupStatus },
-    NoMark,
-    Refused(Refusal),
+pub struct Mark {
+    pub id: u64,
+    pub status: AtomicGroupStatus,
 }
 
 // The frame of a batch, as its header states it.
@@ -94,13 +73,6 @@ pub struct LogBatch {
     pub len: usize,
     // 0: none, 1: compressed
     pub compression: u8,
-}
-
-// The frame of a batch; or why its header is refused.
-#[derive(Clone, Copy)]
-pub enum HeaderRead {
-    Done { batch: LogBatch },
-    Refused(u32),
 }
 
 impl LogBatch {
@@ -120,148 +92,141 @@ impl LogBatch {
     }
 
     // The frame that the first 16 bytes state.
-    pub fn decode_header(buf: &[u8]) -> HeaderRead
+    #[tactic(auto, unfolding(crate::specs::Header::header, words::specs::Word::read_u64))]
+    pub fn decode_header(buf: &[u8]) -> Result<LogBatch, Reason>
         ensures { header_got result ≡ header buf.now 0 }
     {
-        match codec::decode_u64(buf, 0) {
-            U64Read::Done { value: first, next } => match codec::decode_u64(buf, next) {
-                U64Read::Done {
-                    value: second,
-                    next: _,
-                } => read_frame(first, second),
-                U64Read::Eof => HeaderRead::Refused(refusal::HEADER_SHORT),
-            },
-            U64Read::Eof => HeaderRead::Refused(refusal::HEADER_SHORT),
-        }
+        let first = codec::decode_u64(buf, 0).ok_or(Reason::HeaderShort)?;
+        let second = codec::decode_u64(buf, first.next).ok_or(Reason::HeaderShort)?;
+        read_frame(first.value, second.value)
     }
 
     // The frame of a batch whose header, length, compression type and block are right.
-    pub fn check_front(buf: &[u8]) -> HeaderRead
+    #[tactic(auto, unfolding(crate::specs::Batch::front_batch), using(crate::proofs::Frames::header_known))]
+    pub fn check_front(buf: &[u8]) -> Result<LogBatch, Reason>
         ensures { header_got result ≡ front_batch buf.now 0 }
     {
-        match LogBatch::decode_header(buf) {
-            HeaderRead::Refused(number) => HeaderRead::Refused(number),
-            HeaderRead::Done { batch } => {
-                let start = LogBatch::HEADER_LEN;
-                let offset = batch.offset;
-                if buf.len() < batch.len {
-                    return HeaderRead::Refused(refusal::BATCH_SHORT);
-                }
-                if batch.compression != 0 {
-                    return HeaderRead::Refused(refusal::COMPRESSED);
-                }
-                let broken = check_block(&buf[start..offset]);
-                if broken != refusal::NONE {
-                    return HeaderRead::Refused(broken);
-                }
-                HeaderRead::Done { batch }
-            }
+        let batch = LogBatch::decode_header(buf)?;
+        let offset = batch.offset;
+        if buf.len() < batch.len {
+            return Err(Reason::BatchShort);
         }
+        if batch.compression != 0 {
+            return Err(Reason::Compressed);
+        }
+        check_block(&buf[LogBatch::HEADER_LEN..offset])?;
+        Ok(batch)
     }
 
     // A whole batch under a signature. Bytes past its length are not looked at; spans are in the body.
     pub fn decode(buf: &[u8], signature: u32) -> LogItemBatch
         ensures { result ≡ read_batch buf.now signature }
     {
-        match LogBatch::check_front(buf) {
-            HeaderRead::Refused(number) => LogItemBatch::empty(number, 0),
-            HeaderRead::Done { batch } => {
-                let offset = batch.offset;
-                let len = batch.len;
-                let body = Span {
-                    at: offset,
-                    len: len - offset,
-                };
-                let block = Span {
-                    at: LogBatch::HEADER_LEN,
-                    len: offset - LogBatch::HEADER_LEN,
-                };
-                let mut t = LogItemBatch::decode(&buf[offset..len], signature);
-                if t.refusal.number != refusal::NONE {
-                    return t;
-                }
-                if t.total as usize != sealed_len(block.len) {
-                    return LogItemBatch::empty(refusal::BLOCK_DIFFERS, 0);
-                }
-                t.body = body;
-                t.block = block;
-                t
-            }
+        let batch = match LogBatch::check_front(buf) {
+            Ok(batch) => batch,
+            Err(reason) => return LogItemBatch::empty(Some(outside(reason))),
+        };
+        let offset = batch.offset;
+        let len = batch.len;
+        let body = Span {
+            at: offset,
+            len: len - offset,
+        };
+        let block = Span {
+            at: LogBatch::HEADER_LEN,
+            len: offset - LogBatch::HEADER_LEN,
+        };
+        let mut t = LogItemBatch::decode(&buf[offset..len], signature);
+        if t.refusal.is_some() {
+            return t;
         }
+        if t.total as usize != sealed_len(block.len) {
+            return LogItemBatch::empty(Some(outside(Reason::BlockDiffers)));
+        }
+        t.body = body;
+        t.block = block;
+        t
     }
 
-    // Writes the table's items as a whole batch under a signature, from the start of out on, or leaves out as it was and says why. Of the
-    // table only the items and the lengths of the entry rows count; `store` has the bytes that the items' spans lie in, `content` is the
-    // block's. No items and no content: nothing is written, and the length is 0. A put whose key begins with the internal prefix is
-    // refused with 23.
+    // Writes the table's items as a whole batch under a signature, from the start of out on, or leaves out as it was and says why; the answer is
+    // how many bytes were written. Of the table only the items and the lengths of the entry rows count; `store` has the bytes that the items'
+    // spans lie in, `content` is the block's. No items and no content: nothing is written, and the answer is 0. A put whose key begins with the
+    // internal prefix is refused with 23.
     pub fn encode(
-        table: LogItemBatch,
+        table: &LogItemBatch,
         store: &[u8],
         content: &[u8],
         signature: u32,
         out: &mut [u8],
-    ) -> Encoded
-        ensures { TableWritten true table store.now content.now signature out.old result out.new }
+    ) -> Result<usize, Refusal>
+        ensures { TableWritten true table.now store.now content.now signature out.old result out.new }
     {
-        let items = table.items;
-        let count = table.item_count;
-        let entries = table.entries;
-        let rows = table.entry_count;
-        let m = list_writer::measure(items, count, entries, rows, store, true);
-        let r = begin(m, count, content, out);
-        if r.length == 0 {
-            return r;
-        }
-        let at = r.length - m.length;
-        list_writer::encode(items, count, entries, rows, store, signature, true, out, at);
-        r
+        encode_batch(table, store, content, signature, true, out)
     }
 
     // The same with any key.
     pub fn encode_unchecked(
-        table: LogItemBatch,
+        table: &LogItemBatch,
         store: &[u8],
         content: &[u8],
         signature: u32,
         out: &mut [u8],
-    ) -> Encoded
-        ensures { TableWritten false table store.now content.now signature out.old result out.new }
+    ) -> Result<usize, Refusal>
+        ensures { TableWritten false table.now store.now content.now signature out.old result out.new }
     {
-        let items = table.items;
-        let count = table.item_count;
-        let entries = table.entries;
-        let rows = table.entry_count;
-        let m = list_writer::measure(items, count, entries, rows, store, false);
-        let r = begin(m, count, content, out);
-        if r.length == 0 {
-            return r;
-        }
-        let at = r.length - m.length;
-        list_writer::encode(
-            items, count, entries, rows, store, signature, false, out, at,
-        );
-        r
+        encode_batch(table, store, content, signature, false, out)
     }
 }
 
+// The same where keys are looked at, or not.
+fn encode_batch(
+    table: &LogItemBatch,
+    store: &[u8],
+    content: &[u8],
+    signature: u32,
+    checked: bool,
+    out: &mut [u8],
+) -> Result<usize, Refusal>
+    ensures { TableWritten checked table.now store.now content.now signature out.old result out.new }
+{
+    let items = table.items;
+    let count = table.item_count;
+    let entries = table.entries;
+    let rows = table.entry_count;
+    let m = list_writer::measure(items, count, entries, rows, store, checked);
+    let len = begin(m, count, content, out)?;
+    if len != 0 {
+        let at = len - m?.length;
+        list_writer::encode(
+            items, count, entries, rows, store, signature, checked, out, at,
+        )?;
+    }
+    Ok(len)
+}
+
 // What the two words of a header state.
-#[tactic(auto, using(crate::proofs::Frames::frame_type, crate::proofs::Frames::frame_above, crate::proofs::Frames::frame_below, crate::proofs::Frames::frame_good))]
-fn read_frame(first: u64, second: u64) -> HeaderRead
+#[tactic(auto, unfolding(crate::specs::Header::frame))]
+fn read_frame(first: u64, second: u64) -> Result<LogBatch, Reason>
     ensures { header_got result ≡ frame first second 0 }
 {
     let compression = (first % 256) as u8;
     let len = (first / 256) as usize;
     let offset = second as usize;
     if 1 < compression {
-        return HeaderRead::Refused(refusal::COMPRESSION_UNKNOWN);
+        return Err(Reason::CompressionUnknown);
     }
     if len < offset {
-        return HeaderRead::Refused(refusal::OFFSET_ABOVE_LENGTH);
+        return Err(Reason::OffsetAboveLength);
     }
     if offset < LogBatch::HEADER_LEN {
-        return HeaderRead::Refused(refusal::OFFSET_BELOW_HEADER);
+        return Err(Reason::OffsetBelowHeader);
     }
-    HeaderRead::Done {
-        batch: LogBatch::new(offset, len, compression),
-    }
+    Ok(LogBatch::new(offset, len, compression))
+}
+
+// A refusal that is met outside items.
+pub(crate) fn outside(reason: Reason) -> Refusal
+    ensures { result ≡ record { reason = reason; item = 0 } }
+{
+    Refusal { reason, item: 0 }
 }

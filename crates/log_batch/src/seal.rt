@@ -3,34 +3,31 @@ ghost use Rattle.std.specs.Prelude.{◌≡◌, ◌-◌};
 ghost use Rattle.log_batch.specs.Seal.{seal_check, block_check};
 
 use crate::LogBatch;
-use words::U32Read;
+use refusal::Reason;
 
-// Whether the last four bytes are the checksum of those before them XOR the signature: 0, or 5 or 6.
-pub fn check_seal(bytes: &[u8], signature: u32) -> u32
+// Whether the last four bytes are the checksum of those before them XOR the signature: 5 or 6 where not.
+#[tactic(auto, unfolding(crate::specs::Seal::seal_check), using(crate::proofs::Sealing::footer_read))]
+pub fn check_seal(bytes: &[u8], signature: u32) -> Result<(), Reason>
     ensures { result ≡ seal_check bytes.now signature }
 {
     if bytes.len() <= LogBatch::CHECKSUM_LEN {
-        return refusal::NO_CONTENT;
+        return Err(Reason::NoContent);
     }
     let n = bytes.len() - LogBatch::CHECKSUM_LEN;
-    match words::decode_u32_le(bytes, n) {
-        U32Read::Done { value, next: _ } => {
-            if value == crc::crc32(&bytes[..n]) ^ signature {
-                refusal::NONE
-            } else {
-                refusal::CHECKSUM_WRONG
-            }
-        }
-        U32Read::Eof => refusal::NO_CONTENT,
+    let footer = words::decode_u32_le(bytes, n).ok_or(Reason::NoContent)?;
+    if footer.value != crc::crc32(&bytes[..n]) ^ signature {
+        return Err(Reason::ChecksumWrong);
     }
+    Ok(())
 }
 
-// Whether a block is empty, or its last four bytes are the checksum of those before them: 0, or 5 or 6.
-pub(crate) fn check_block(block: &[u8]) -> u32
+// Whether a block is empty, or its last four bytes are the checksum of those before them: 5 or 6 where not.
+#[tactic(auto, unfolding(crate::specs::Seal::block_check))]
+pub(crate) fn check_block(block: &[u8]) -> Result<(), Reason>
     ensures { result ≡ block_check block.now }
 {
-    if block.len() == 0 {
-        return refusal::NONE;
+    if block.is_empty() {
+        return Ok(());
     }
     check_seal(block, 0)
 }
@@ -39,8 +36,5 @@ pub(crate) fn check_block(block: &[u8]) -> u32
 pub fn sealed_len(len: usize) -> usize
     ensures { result ≡ len - 4 }
 {
-    if len < LogBatch::CHECKSUM_LEN {
-        return 0;
-    }
-    len - LogBatch::CHECKSUM_LEN
+    len.saturating_sub(LogBatch::CHECKSUM_LEN)
 }

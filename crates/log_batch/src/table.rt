@@ -3,40 +3,31 @@ ghost use Rattle.std.specs.Prelude.{◌≡◌, true, false};
 ghost use Rattle.log_item.specs.Got.{got};
 ghost use Rattle.log_batch.specs.Reading.{count, read_items};
 ghost use Rattle.log_batch.specs.Body.{read_body};
-ghost use Rattle.log_item.specs.Blank.{blank_item, blank_entry};
 ghost use Rattle.log_batch.specs.Table.{empty_table, table_of, body_table};
 ghost use Rattle.log_batch.specs.Writing.{BodyWritten};
 
 use crate::body::read_item_count;
 use crate::seal::check_seal;
-use crate::{LogBatch, LogItemBatch};
-use list_writer::Encoded;
-use log_item::{
-    EntryIndex, EntryIndexes, Field, Form, HeadRead, LogItem, LogItemContent, Span, TailRead,
-};
+use crate::{LogBatch, LogItemBatch, outside};
+use log_item::{EntryIndex, EntryIndexes, Form, LogItem, LogItemContent, Span};
 use refusal::Refusal;
 
-fn blank_item() -> LogItem
-    ensures { result ≡ blank_item }
-{
-    LogItem {
-        raft_group_id: 0,
-        content: LogItemContent::EntryIndexes(EntryIndexes {
-            count: 0,
-            first_index: 0,
-        }),
-    }
-}
+// The rows of a table that hold nothing.
+const BLANK_ITEM: LogItem = LogItem {
+    raft_group_id: 0,
+    content: LogItemContent::EntryIndexes(EntryIndexes {
+        count: 0,
+        first_index: 0,
+    }),
+};
 
-fn blank_entry() -> EntryIndex
-    ensures { result ≡ blank_entry }
-{
-    EntryIndex {
-        index: 0,
-        entry_offset: 0,
-        entry_len: 0,
-    }
-}
+const BLANK_ENTRY: EntryIndex = EntryIndex {
+    index: 0,
+    entry_offset: 0,
+    entry_len: 0,
+};
+
+const NOWHERE: Span = Span { at: 0, len: 0 };
 
 // The table of a body without its footer, or the empty table with the refusal.
 pub fn read_items(buf: &[u8]) -> LogItemBatch
@@ -46,148 +37,127 @@ pub fn read_items(buf: &[u8]) -> LogItemBatch
 }
 
 impl LogItemBatch {
-    // A table with no rows, refused with this number at this item (0 and 0: not refused).
-    pub(crate) fn empty(number: u32, item: usize) -> LogItemBatch
-        ensures { result ≡ empty_table number item }
+    // A table with no rows, with this refusal or none.
+    pub(crate) fn empty(refusal: Option<Refusal>) -> LogItemBatch
+        ensures { result ≡ empty_table refusal }
     {
-        let item_row = blank_item();
-        let entry_row = blank_entry();
         LogItemBatch {
-            items: [item_row; 256],
+            items: [BLANK_ITEM; 256],
             item_count: 0,
-            entries: [entry_row; 1024],
+            entries: [BLANK_ENTRY; 1024],
             entry_count: 0,
             total: 0,
             next: 0,
-            body: Span { at: 0, len: 0 },
-            block: Span { at: 0, len: 0 },
-            refusal: Refusal { number, item },
+            body: NOWHERE,
+            block: NOWHERE,
+            refusal,
         }
     }
 
     // The table of a body with its footer, under a signature, or the empty table with the refusal.
+    #[tactic(auto, unfolding(crate::specs::Body::read_body, crate::specs::Table::table_of), using(crate::proofs::Sealing::seal_long))]
     pub fn decode(body: &[u8], signature: u32) -> LogItemBatch
         ensures { result ≡ body_table body.now (read_body body.now signature) }
     {
-        let broken = check_seal(body, signature);
-        if broken != refusal::NONE {
-            return LogItemBatch::empty(broken, 0);
+        match check_seal(body, signature) {
+            Ok(()) => {
+                let n = body.len() - LogBatch::CHECKSUM_LEN;
+                LogItemBatch::fill(&body[..n], body.len())
+            }
+            Err(reason) => LogItemBatch::empty(Some(outside(reason))),
         }
-        let n = body.len() - LogBatch::CHECKSUM_LEN;
-        LogItemBatch::fill(&body[..n], body.len())
     }
 
     // The table of a body without its footer; `len` is how long a body it states, from 0 on.
+    #[tactic(auto, unfolding(crate::specs::Reading::read_items, crate::specs::Table::table_of))]
     fn fill(buf: &[u8], len: usize) -> LogItemBatch
         ensures { result ≡ table_of (record { at = 0; len = len }) (record { at = 0; len = 0 }) (read_items Form.Any buf.now) }
     {
         match read_item_count(buf, Form::Any) {
-            Field::Done { value, next } => {
-                LogItemBatch::fill_from(buf, len, next, value as usize)
-            }
-            Field::Refused(number) => LogItemBatch::empty(number, 0),
+            Ok(count) => LogItemBatch::fill_from(buf, len, count.next, count.value as usize),
+            Err(reason) => LogItemBatch::empty(Some(outside(reason))),
         }
     }
 
-    // The same where its `many` items begin at a place. The one loop that fills a table.
+    // The same where its `many` items begin at a place. The one place that fills a table.
     fn fill_from(buf: &[u8], len: usize, start: usize, many: usize) -> LogItemBatch
         requires { count Form.Any buf.now 0 ≡ got many start }
         ensures { result ≡ table_of (record { at = 0; len = len }) (record { at = 0; len = 0 }) (read_items Form.Any buf.now) }
     {
-        let mut t = LogItemBatch::empty(refusal::NONE, 0);
-        let mut i: usize = 0;
-        let mut j: usize = 0;
+        let mut t = LogItemBatch::empty(None);
         let mut at = start;
         let mut total: u32 = 0;
-        let mut tails: usize = 0;
-        let mut index: u64 = 0;
-        loop {
-            if 0 < tails {
-                match EntryIndexes::decode_tail(buf, at, total) {
-                    TailRead::Refused(number) => {
-                        return LogItemBatch::empty(number, i - 1);
-                    }
-                    TailRead::Done { total: after, next } => {
-                        t.entries[j] = EntryIndex {
-                            index,
-                            entry_offset: total,
-                            entry_len: after - total,
-                        };
-                        j += 1;
-                        at = next;
-                        total = after;
-                        tails -= 1;
-                        index = std::num::wrapping_add_u64(index, 1);
-                    }
-                }
-            } else if i < many {
-                match LogItem::decode_head(buf, at, j) {
-                    HeadRead::Refused(number) => {
-                        return LogItemBatch::empty(number, i);
-                    }
-                    HeadRead::Done { item, next } => {
-                        let entries = item.entries();
-                        t.items[i] = item;
-                        i += 1;
-                        at = next;
-                        tails = entries.count;
-                        index = entries.first_index;
-                    }
-                }
-            } else {
-                let body = Span { at: 0, len };
-                t.item_count = i;
-                t.entry_count = j;
-                t.total = total;
-                t.next = at;
-                t.body = body;
-                return t;
+        let mut rows: usize = 0;
+        for i in 0..many {
+            let head = match LogItem::decode_head(buf, at, rows) {
+                Ok(head) => head,
+                Err(reason) => return LogItemBatch::empty(Some(Refusal { reason, item: i })),
+            };
+            t.items[i] = head.value;
+            at = head.next;
+            let entries = head.value.entries();
+            let mut index = entries.first_index;
+            for _ in 0..entries.count {
+                let tail = match EntryIndexes::decode_tail(buf, at, total) {
+                    Ok(tail) => tail,
+                    Err(reason) => return LogItemBatch::empty(Some(Refusal { reason, item: i })),
+                };
+                t.entries[rows] = EntryIndex {
+                    index,
+                    entry_offset: total,
+                    entry_len: tail.value - total,
+                };
+                rows += 1;
+                at = tail.next;
+                total = tail.value;
+                index = index.wrapping_add(1);
             }
         }
+        t.item_count = many;
+        t.entry_count = rows;
+        t.total = total;
+        t.next = at;
+        t.body = Span { at: 0, len };
+        t
     }
 
-    // Writes the table's items as a body under a signature, from the start of out on, or leaves out as it was and says why. Of the table
-    // only the items and the lengths of the entry rows count; `store` has the bytes that the items' spans lie in. A put whose key begins
-    // with the internal prefix is refused with 23.
-    pub fn encode(table: LogItemBatch, store: &[u8], signature: u32, out: &mut [u8]) -> Encoded
-        ensures { BodyWritten true table store.now signature out.old result out.new }
+    // Writes the table's items as a body under a signature, from the start of out on, or leaves out as it was and says why; the answer is how
+    // many bytes were written. Of the table only the items and the lengths of the entry rows count; `store` has the bytes that the items' spans
+    // lie in. A put whose key begins with the internal prefix is refused with 23.
+    pub fn encode(&self, store: &[u8], signature: u32, out: &mut [u8]) -> Result<usize, Refusal>
+        ensures { BodyWritten true self.now store.now signature out.old result out.new }
     {
-        let items = table.items;
-        let entries = table.entries;
-        list_writer::encode(
-            items,
-            table.item_count,
-            entries,
-            table.entry_count,
-            store,
-            signature,
-            true,
-            out,
-            0,
-        )
+        self.encode_body(store, signature, true, out)
     }
 
     // The same with any key.
     pub fn encode_unchecked(
-        table: LogItemBatch,
+        &self,
         store: &[u8],
         signature: u32,
         out: &mut [u8],
-    ) -> Encoded
-        ensures { BodyWritten false table store.now signature out.old result out.new }
+    ) -> Result<usize, Refusal>
+        ensures { BodyWritten false self.now store.now signature out.old result out.new }
     {
-        let items = table.items;
-        let entries = table.entries;
+        self.encode_body(store, signature, false, out)
+    }
+
+    // The same where keys are looked at, or not.
+    fn encode_body(
+        &self,
+        store: &[u8],
+        signature: u32,
+        checked: bool,
+        out: &mut [u8],
+    ) -> Result<usize, Refusal>
+        ensures { BodyWritten checked self.now store.now signature out.old result out.new }
+    {
+        let items = self.items;
+        let count = self.item_count;
+        let entries = self.entries;
+        let rows = self.entry_count;
         list_writer::encode(
-            items,
-            table.item_count,
-            entries,
-            table.entry_count,
-            store,
-            signature,
-            false,
-            out,
-            0,
+            items, count, entries, rows, store, signature, checked, out, 0,
         )
     }
 }

@@ -1,7 +1,7 @@
 -- The tails of an item and their rows: that the indexes change neither the total nor the place, what each turn over the tails does,
 -- and what an item comes to.
 -- Assumes nothing.
-use Prim.Native.Nat.{ℕ, zero, suc, ◌+◌, ◌-◌, ◌<◌}
+use Prim.Native.Nat.{ℕ, zero, suc, ◌+◌, ◌<◌}
 use mathlib.Core.Path.{◌≡◌, refl, sym, ap, ◌∙◌}
 use mathlib.Core.List.{List, ◌∷◌}
 use native.Mathlib.Omega.{arith}
@@ -9,12 +9,15 @@ use lib.ListN.{length}
 use Rattle.log_item.specs.Got.{Got, got, refused, Reading, done, bind}
 use Rattle.log_item.specs.Entries.{entries_of, tail_row}
 use Rattle.log_item.specs.Reading.{Read, head, tail, tails, with_tails, one_item}
-use Rattle.log_item.specs.Answers.{Counted, counted_item, pass_item}
-use Rattle.log_item.specs.Private.{pass_tails}
+use Rattle.log_item.specs.Answers.{counted_item, pass_item}
+use Rattle.log_item.specs.Passing.{pass_tails}
 use Rattle.log_item.specs.declared.Form.{Form}
 use Rattle.log_item.specs.declared.EntryIndex.{EntryIndex}
 use Rattle.log_item.specs.declared.EntryIndexes.{EntryIndexes}
 use Rattle.log_item.specs.declared.LogItem.{LogItem}
+use Rattle.log_item.specs.declared.ItemRead.{ItemRead}
+use Rattle.log_item.specs.declared.Passed.{Passed}
+use Rattle.refusal.specs.declared.Reason.{Reason}
 use Rattle.log_item.proofs.Holds.{Holds, holds, after, later, only, of_got, bind_got}
 
 -- the total alone
@@ -23,8 +26,8 @@ total_of (got r q) = got r.1 q
 total_of (refused r) = refused r
 
 -- the item x with its tails at q, and n entries with it, where its rows are passed by
-abbrev pub passing : LogItem → ℕ → ℕ → ℕ → Reading Counted
-passing x q n u = done (record { item = x; tails_at = q; total = u; used = n })
+abbrev pub passing : LogItem → ℕ → ℕ → ℕ → Reading ItemRead
+passing x q n u = done (record { item = x; tails = q; total = u; used = n })
 
 row_ahead : (x : EntryIndex) (g : Got (List EntryIndex × ℕ)) → total_of (bind g (λ r. done (x ∷ r.0, r.1))) ≡ total_of g
 row_ahead x (got r q) = refl
@@ -61,15 +64,13 @@ module _ (form : Form) (s : List ℕ) where
   unfolding pass_tails tails
   pass_end t p e = rw e
 
-  pub pass_next : (n t p : ℕ) → 0 < n → {w q : ℕ} → tail form s t p ≡ got w q → pass_tails form s (n - 1) w q ≡ pass_tails form s n t p
+  pub pass_next : {n m : ℕ} (t p : ℕ) → n ≡ suc m → {w q : ℕ} → tail form s t p ≡ got w q → pass_tails form s m w q ≡ pass_tails form s n t p
   unfolding tails
-  pass_next zero t p some e = absurd (omega arith)
-  pass_next (suc n) t p some {w} {q} e =
-      let less : suc n - 1 ≡ n = omega arith in
-      let one : total_of (tails form s (suc n) 0 t p) ≡ total_of (tails form s n (0 + 1) w q) = rw e (row_ahead _ (tails form s n (0 + 1) w q)) in
-      rw less (sym (total_pass n (0 + 1) w q) ∙ sym one ∙ total_pass (suc n) 0 t p)
+  pass_next {n} {m} t p k {w} {q} e =
+      let one : total_of (tails form s (suc m) 0 t p) ≡ total_of (tails form s m (0 + 1) w q) = rw e (row_ahead _ (tails form s m (0 + 1) w q)) in
+      rw k (sym (total_pass m (0 + 1) w q) ∙ sym one ∙ total_pass (suc m) 0 t p)
 
-  pub pass_stop : (n t p : ℕ) → 0 < n → {r : ℕ} → tail form s t p ≡ refused r → refused r ≡ pass_tails form s n t p
+  pub pass_stop : (n t p : ℕ) → 0 < n → {r : Reason} → tail form s t p ≡ refused r → refused r ≡ pass_tails form s n t p
   unfolding pass_tails tails
   pass_stop zero t p some e = absurd (omega arith)
   pass_stop (suc n) t p some e = rw e
@@ -86,21 +87,21 @@ module _ (form : Form) (s : List ℕ) where
   as_many_rows n i t p e = of_got (rows_hold n i t p) e
 
   -- Total and number are those of the item with its rows.
-  pub pass_one : (used t p : ℕ) → pass_item form s used t p ≡ bind (one_item form s used t p) (λ r. done (r.total, used + length r.rows))
+  pub pass_one : (used t p : ℕ) → pass_item form s used t p ≡ bind (one_item form s used t p) (λ r. done (record { total = r.total; used = used + length r.rows }))
   unfolding pass_item counted_item one_item
   pass_one used t p = by_head (head form s used p)
     where
       by_item : (q : ℕ) (g : Got Read)
-          → bind {A = Counted} {B = ℕ × ℕ} (bind g (λ r. done (record { item = r.item; tails_at = q; total = r.total; used = used + length r.rows }))) (λ r. done (r.total, r.used))
-          ≡ bind g (λ r. done (r.total, used + length r.rows))
+          → bind {A = ItemRead} {B = Passed} (bind g (λ r. done (record { item = r.item; tails = q; total = r.total; used = used + length r.rows }))) (λ r. done (record { total = r.total; used = r.used }))
+          ≡ bind g (λ r. done (record { total = r.total; used = used + length r.rows }))
       by_item q (got r z) = refl
       by_item q (refused r) = refl
 
       by_head : (m : Got LogItem)
-          → bind {A = Counted} {B = ℕ × ℕ}
-          (bind m (λ x q. bind (with_tails form s x t q) (λ r. done (record { item = r.item; tails_at = q; total = r.total; used = used + length r.rows }))))
-          (λ r. done (r.total, r.used))
-          ≡ bind {A = Read} {B = ℕ × ℕ} (bind m (λ x. with_tails form s x t)) (λ r. done (r.total, used + length r.rows))
+          → bind {A = ItemRead} {B = Passed}
+          (bind m (λ x q. bind (with_tails form s x t q) (λ r. done (record { item = r.item; tails = q; total = r.total; used = used + length r.rows }))))
+          (λ r. done (record { total = r.total; used = r.used }))
+          ≡ bind {A = Read} {B = Passed} (bind m (λ x. with_tails form s x t)) (λ r. done (record { total = r.total; used = used + length r.rows }))
       by_head (got x q) = by_item q (with_tails form s x t q)
       by_head (refused r) = refl
 
@@ -120,17 +121,17 @@ module _ (form : Form) (s : List ℕ) where
           let same : y ≡ record { item = x; rows = o.0; total = o.1 } = cc in
           let place : w ≡ z = cc in
           rw (same, place) (refl, refl)
-      by_rows x (refused n) c = let o : ◌≡◌ {A = ℕ} 0 1 = cc in absurd (omega arith)
+      by_rows x (refused n) c = cc
 
   module _ (used t p : ℕ) where
-    pub item_no_head : {r : ℕ} → head form s used p ≡ refused r → refused r ≡ counted_item form s used t p
+    pub item_no_head : {r : Reason} → head form s used p ≡ refused r → refused r ≡ counted_item form s used t p
     unfolding counted_item
     item_no_head e = rw e
 
     module _ {x : LogItem} {q : ℕ} (e : head form s used p ≡ got x q) {d : EntryIndexes} (k : d ≡ entries_of x.content) where
       by_rows : (g : Got (List EntryIndex × ℕ)) → Holds (λ r z. length r.0 ≡ d.count) g
-          → bind {A = Read} {B = Counted} (bind g (λ r. done (record { item = x; rows = r.0; total = r.1 })))
-          (λ r. done (record { item = r.item; tails_at = q; total = r.total; used = used + length r.rows }))
+          → bind {A = Read} {B = ItemRead} (bind g (λ r. done (record { item = x; rows = r.0; total = r.1 })))
+          (λ r. done (record { item = r.item; tails = q; total = r.total; used = used + length r.rows }))
           ≡ bind (total_of g) (passing x q (used + d.count))
       by_rows (got r z) h = rw (only h)
       by_rows (refused r) h = refl
@@ -145,8 +146,8 @@ module _ (form : Form) (s : List ℕ) where
           ∙ ap (λ g. bind g (passing x q (used + d.count))) (total_pass d.count d.first_index t q))
 
       pub item_done : {u z : ℕ} → pass_tails form s d.count t q ≡ got u z
-          → got (record { item = x; tails_at = q; total = u; used = used + d.count }) z ≡ counted_item form s used t p
+          → got (record { item = x; tails = q; total = u; used = used + d.count }) z ≡ counted_item form s used t p
       item_done f = rw (item_rows, f)
 
-      pub item_no_tails : {r : ℕ} → pass_tails form s d.count t q ≡ refused r → refused r ≡ counted_item form s used t p
+      pub item_no_tails : {r : Reason} → pass_tails form s d.count t q ≡ refused r → refused r ≡ counted_item form s used t p
       item_no_tails f = rw (item_rows, f)

@@ -1,7 +1,7 @@
 -- What holds of each piece that was got.
 -- Assumes nothing.
 use Prim.Native.Nat.{ℕ, zero, suc, ◌+◌, ◌^◌, ◌≤◌, ◌<◌}
-use mathlib.Core.Path.{◌≡◌}
+use mathlib.Core.Path.{◌≡◌, refl}
 use mathlib.Core.List.{List}
 use native.Mathlib.Omega.{arith}
 use native.Mathlib.Nat.{eq-zero-or-pos}
@@ -14,6 +14,7 @@ use Rattle.log_item.specs.Reading.{command, key_value_of, first_index_of, entry_
 use Rattle.log_item.specs.declared.Form.{Form}
 use Rattle.log_item.specs.declared.EntryIndexes.{EntryIndexes}
 use Rattle.log_item.specs.declared.LogItem.{LogItem}
+use Rattle.refusal.specs.declared.Reason.TheVariants.{EntriesTooMany, IndexTooLarge, TailFalls, TailTooLarge}
 use Rattle.log_item.proofs.Holds.{Holds, holds, refuses, after, later, at_most, chosen, of_got}
 
 -- entries that may follow e others: what is stated of them where there is one
@@ -24,7 +25,7 @@ pub record EntriesFit (e : ℕ) (x : EntryIndexes) : Type 0 where
 module _ (form : Form) (s : List ℕ) where
   tail_holds : (t p : ℕ) → Holds (λ w q. (t ≤ w) × (w ≤ 4294967295)) (tail form s t p)
   unfolding tail
-  tail_holds t p = later (number form s p) λ w q. at_most w 4294967295 16 _ q λ h. at_most t w 15 _ q λ k. holds (k, h)
+  tail_holds t p = later (number form s p) λ w q. at_most w 4294967295 TailTooLarge _ q λ h. at_most t w TailFalls _ q λ k. holds (k, h)
 
   -- A tail is neither below the total before it nor above 32 bits.
   pub tail_known : (t p : ℕ) {w q : ℕ} → tail form s t p ≡ got w q → (t ≤ w) × (w ≤ 4294967295)
@@ -34,15 +35,24 @@ module _ (form : Form) (s : List ℕ) where
   unfolding first_index_of
   first_holds e zero p h = holds (record { few = λ _. h; last = λ k. absurd (omega arith) })
   first_holds e (suc n) p h =
-      later (number form s p) λ i q. at_most (i + n) 18446744073709551615 17 _ q λ k. holds (record { few = λ _. h; last = λ _. omega arith })
+      later (number form s p) λ i q. at_most (i + n) 18446744073709551615 IndexTooLarge _ q λ k. holds (record { few = λ _. h; last = λ _. omega arith })
 
   count_holds : (e p : ℕ) → Holds (λ n q. e + n ≤ 1024) (entry_count_of form s e p)
   unfolding entry_count_of
-  count_holds e p = later (number form s p) λ n q. at_most (e + n) 1024 14 _ q λ h. holds h
+  count_holds e p = later (number form s p) λ n q. at_most (e + n) 1024 EntriesTooMany _ q λ h. holds h
 
   -- Counted entries are among the first 1,024 of the batch.
   pub count_known : (e p : ℕ) {n q : ℕ} → entry_count_of form s e p ≡ got n q → e + n ≤ 1024
   count_known e p k = of_got (count_holds e p) k
+
+  as_counted : (n p : ℕ) → Holds (λ x q. x.count ≡ n) (first_index_of form s n p)
+  unfolding first_index_of
+  as_counted zero p = holds refl
+  as_counted (suc n) p = later (number form s p) λ i q. at_most (i + n) 18446744073709551615 IndexTooLarge _ q λ k. holds refl
+
+  -- As many entries as were counted.
+  pub first_count : (n p : ℕ) {x : EntryIndexes} {q : ℕ} → first_index_of form s n p ≡ got x q → x.count ≡ n
+  first_count n p k = of_got (as_counted n p) k
 
   entries_hold : (e p : ℕ) → Holds (λ x q. EntriesFit e x) (entry_indexes form s e p)
   unfolding entry_indexes

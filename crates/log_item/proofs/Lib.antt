@@ -1,7 +1,6 @@
 pub mod Holds
 pub mod NumberGot
 pub mod Pieces
-pub mod Starts
 pub mod Every
 pub mod Reading
 pub mod Counted
@@ -16,7 +15,6 @@ pub mod Agree
 pub mod One
 pub mod Lengths
 pub mod Stores
-pub mod Bytes
 pub mod Tails
 pub mod Refusals
 pub mod Written

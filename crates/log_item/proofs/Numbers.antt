@@ -7,9 +7,8 @@ use native.Mathlib.Omega.{arith}
 use lib.ListN.{length}
 use lib.Seq.{drop-cons}
 use borrow.Author.Tests.{lt-ltb, eq-eqb}
-use Rattle.codec.specs.declared.NumberRead.{NumberRead}
-use Rattle.codec.specs.declared.NumberRead.TheVariants.{Done, Eof, Overflow}
-use Rattle.codec.specs.Number.{read_number, number_got}
+use Rattle.std.specs.Prelude.{Ok, Err}
+use Rattle.codec.specs.Number.{NumberRead, read_number, number_got}
 use Rattle.codec.specs.Shortest.{shortest}
 use Rattle.codec.specs.Spelling.{SpellsNumber}
 use Rattle.codec.proofs.Spelled.{groups_pos}
@@ -19,9 +18,10 @@ use Rattle.log_item.specs.declared.Form.TheVariants.{Any, Plain}
 use Rattle.log_item.specs.Got.{got}
 use Rattle.log_item.specs.Spelling.{NumberIn}
 use Rattle.words.specs.Place.{At, Found}
+use Rattle.words.specs.Word.{piece}
 use Rattle.log_item.specs.ItemSpelled.{Asks}
 use Rattle.log_item.specs.Pieces.{byte, number}
-use Rattle.log_item.proofs.Holds.{Says, holds, says, after, if_below, if_equal}
+use Rattle.log_item.proofs.Holds.{Holds, holds, refuses, after, below, equal}
 use Rattle.words.specs.Byte.{Bytes}
 use Rattle.words.proofs.Place.{at_byte, at_inside, bytes_at}
 
@@ -34,9 +34,9 @@ complete_byte {s} {b} {p} {q} f =
     rw (lt-ltb _ _ h) (cc (drop-cons s p 0 h, f.stand))
 
 -- A byte that is read at a place stands there.
-pub sound_byte : (s : List ℕ) (p : ℕ) → Says (λ b q. At s p q (b ∷ [])) (byte s p)
+pub sound_byte : (s : List ℕ) (p : ℕ) → Holds (λ b q. At s p q (b ∷ [])) (byte s p)
 unfolding byte
-sound_byte s p = if_below p (length s) _ _ _ λ h. holds (at_byte p h)
+sound_byte s p = below p (length s) _ _ _ λ h. holds (at_byte p h)
 
 -- A spelling in the shortest form is a spelling.
 pub plain_any : (n : ℕ) (x : List ℕ) → NumberIn Plain n x → NumberIn Any n x
@@ -52,7 +52,7 @@ pub number_some : (form : Form) (n : ℕ) (x : List ℕ) → NumberIn form n x �
 number_some form n x h = groups_pos (in_any form n x h).groups
 
 -- A number in any spelling is read.
-complete_any : {s : List ℕ} {n : ℕ} {x : List ℕ} → SpellsNumber n x → {p q : ℕ} → At s p q x → read_number s p ≡ Done n q
+complete_any : {s : List ℕ} {n : ℕ} {x : List ℕ} → SpellsNumber n x → {p q : ℕ} → At s p q x → read_number s p ≡ Ok (piece n q)
 complete_any {s} {n} {x} h {p} {q} f = (read_iff_stands s p n q).1 (record { bytes = x; at = f; has = h })
 
 -- A number that is spelled at a place is read there.
@@ -64,21 +64,20 @@ complete_number Plain {n = n} {x = x} h {p} {q} f =
     rw (complete_any (plain_any n x h) f, eq-eqb _ _ e)
 
 -- A number that is read has a spelling there.
-sound_any : (s : List ℕ) (p : ℕ) → Says (λ n q. Found s (SpellsNumber n) p q) (number_got (read_number s p))
+sound_any : (s : List ℕ) (p : ℕ) → Holds (λ n q. Found s (SpellsNumber n) p q) (number_got (read_number s p))
 sound_any s p = go (read_number s p) refl
   where
-    go : (r : NumberRead) → read_number s p ≡ r → Says (λ n q. Found s (SpellsNumber n) p q) (number_got r)
-    go (Done n q) e = holds ((read_iff_stands s p n q).0 e)
-    go Eof e = says _
-    go Overflow e = says _
+    go : (r : NumberRead) → read_number s p ≡ r → Holds (λ n q. Found s (SpellsNumber n) p q) (number_got r)
+    go (Ok n) e = holds ((read_iff_stands s p n.value n.next).0 e)
+    go (Err r) e = refuses
 
 -- A number that is read at a place is spelled there.
-pub sound_number : (form : Form) (s : List ℕ) → Asks form s → (p : ℕ) → Says (λ n q. Found s (NumberIn form n) p q) (number form s p)
+pub sound_number : (form : Form) (s : List ℕ) → Asks form s → (p : ℕ) → Holds (λ n q. Found s (NumberIn form n) p q) (number form s p)
 unfolding number
 sound_number Any s asks p = sound_any s p
 sound_number Plain s asks p =
     after (sound_any s p) λ n q f.
-    if_equal q (p + length (shortest n)) _ _ _ λ e.
+    equal q (p + length (shortest n)) _ _ _ λ e.
     let bytes : Bytes f.bytes = bytes_at f.at asks in
     let short : length f.bytes ≡ length (shortest n) = omega (arith, f.at.ends) in
     holds (record { bytes = f.bytes; at = f.at; has = (spells_fits f.has bytes, none_as_short f.has bytes short) })

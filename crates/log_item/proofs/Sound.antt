@@ -21,7 +21,7 @@ use Rattle.log_item.specs.ItemSpelled.{Asks, ItemSpelled}
 use Rattle.log_item.specs.Pieces.{span}
 use Rattle.log_item.specs.Reading.{command, put_at, key_value_of, first_index_of, entry_count_of, entry_indexes, head, tail, tails, one_item}
 use Rattle.log_item.specs.Reading as reading
-use Rattle.log_item.proofs.Holds.{Says, holds, says, after, if_most, is}
+use Rattle.log_item.proofs.Holds.{Holds, holds, refuses, after, at_most, is}
 use Rattle.words.proofs.Place.{join, at_nothing}
 use Rattle.log_item.proofs.Numbers.{sound_byte, sound_number}
 use Rattle.log_item.proofs.Complete.{tails_length}
@@ -64,11 +64,11 @@ spanned_as N bytes e f h = rw (e, f) (spanned bytes (rw f at h))
 
 module _ (form : Form) (s : List ℕ) (asks : Asks form s) where
   -- A span that is read is spelled.
-  pub sound_span : (p : ℕ) → Says (λ k q. Found s (Spanned (NumberIn form) k p) p q) (span form s p)
+  pub sound_span : (p : ℕ) → Holds (λ k q. Found s (Spanned (NumberIn form) k p) p q) (span form s p)
   unfolding span
   sound_span p =
       after (sound_number form s asks p) λ n a f.
-      if_most (a + n) (length s) _ _ _ λ fits.
+      at_most (a + n) (length s) _ _ _ λ fits.
       let k : n ≡ length (take n (drop a s)) = omega (arith, length-take n (drop a s), length-drop a s) in
       let e : drop a s ≡ take n (drop a s) ++ drop (a + n) s = sym (take-append-drop n (drop a s)) ∙ ap (λ l. take n (drop a s) ++ l) (drop-drop n a s) in
       holds (record {
@@ -78,16 +78,16 @@ module _ (form : Form) (s : List ℕ) (asks : Asks form s) where
       })
 
   -- A tail that is read is spelled, and within the limits.
-  pub sound_tail : (t p : ℕ) → Says (λ w q. TailSpelled form s t p w q) (tail form s t p)
+  pub sound_tail : (t p : ℕ) → Holds (λ w q. TailSpelled form s t p w q) (tail form s t p)
   unfolding tail
   sound_tail t p =
       after (sound_number form s asks p) λ w q f.
-      if_most w 4294967295 _ _ _ λ small.
-      if_most t w _ _ _ λ rises.
+      at_most w 4294967295 _ _ _ λ small.
+      at_most t w _ _ _ λ rises.
       holds (record { found = f; small = small; rises = rises })
 
   -- Tails that are read are spelled, with rows within the limits.
-  pub sound_tails : (n i t p : ℕ) → i + n ≤ 18446744073709551616 → Says (λ r q. Found s (TailsSpelled form n i t r) p q) (tails form s n i t p)
+  pub sound_tails : (n i t p : ℕ) → i + n ≤ 18446744073709551616 → Holds (λ r q. Found s (TailsSpelled form n i t r) p q) (tails form s n i t p)
   unfolding tails
   sound_tails zero i t p h =
       holds (record { bytes = []; at = at_nothing p; has = record { tails = no_more; each = every.Each.none } })
@@ -104,13 +104,13 @@ module _ (form : Form) (s : List ℕ) (asks : Asks form s) where
       })
 
   -- A count and the first index that is read after it are spelled.
-  sound_first : (e n p a : ℕ) → Found s (NumberIn form n) p a → e + n ≤ 1024 → Says (λ x q. Content form s e 1 p (content.EntryIndexes x) q) (first_index_of form s n a)
+  sound_first : (e n p a : ℕ) → Found s (NumberIn form n) p a → e + n ≤ 1024 → Holds (λ x q. Content form s e 1 p (content.EntryIndexes x) q) (first_index_of form s n a)
   unfolding first_index_of
   sound_first e zero p a f few =
       holds (record { found = record { bytes = f.bytes; at = f.at; has = no_entries f.has }; kind = refl; stated = record { few = few; last = omega arith } })
   sound_first e (suc n) p a f few =
       after (sound_number form s asks a) λ i q g.
-      if_most (i + n) 18446744073709551615 _ _ _ λ small.
+      at_most (i + n) 18446744073709551615 _ _ _ λ small.
       holds (record {
         found = record { bytes = f.bytes ++ g.bytes; at = join f.at g.at; has = entries f.has g.has };
         kind = refl;
@@ -118,23 +118,23 @@ module _ (form : Form) (s : List ℕ) (asks : Asks form s) where
       })
 
   -- A count and first index that are read are spelled.
-  sound_entries : (e p : ℕ) → Says (λ x q. Content form s e 1 p (content.EntryIndexes x) q) (entry_indexes form s e p)
+  sound_entries : (e p : ℕ) → Holds (λ x q. Content form s e 1 p (content.EntryIndexes x) q) (entry_indexes form s e p)
   unfolding entry_indexes entry_count_of
   sound_entries e p =
-      after {P = λ n a. Found s (NumberIn form n) p a × (e + n ≤ 1024)} (after (sound_number form s asks p) λ n a f. if_most (e + n) 1024 _ _ _ λ few. holds (f, few))
+      after {P = λ n a. Found s (NumberIn form n) p a × (e + n ≤ 1024)} (after (sound_number form s asks p) λ n a f. at_most (e + n) 1024 _ _ _ λ few. holds (f, few))
       λ n a h. sound_first e n p a h.0 h.1
 
   -- A command that is read is spelled.
-  sound_command : (p : ℕ) → Says (λ c q. Found s (Contents (NumberIn form) (content.Command c) p) p q) (command form s p)
+  sound_command : (p : ℕ) → Holds (λ c q. Found s (Contents (NumberIn form) (content.Command c) p) p q) (command form s p)
   unfolding command
   sound_command p =
       after (sound_byte s p) λ b a f.
       is b 1 _ _ _ (λ e. holds (record { bytes = 1 ∷ []; at = rw e at f; has = clean }))
       (is b 2 _ _ _ (λ e. after (sound_number form s asks a) λ i q g. holds (record { bytes = 2 ∷ g.bytes; at = join (rw e at f) g.at; has = compact g.has }))
-      (says _))
+      refuses)
 
   -- A put whose key and content are read behind its op is spelled.
-  sound_put : (p a : ℕ) → At s p a (1 ∷ []) → Says (λ k q. Found s (Contents (NumberIn form) (content.Kv k) p) p q) (put_at form s a)
+  sound_put : (p a : ℕ) → At s p a (1 ∷ []) → Holds (λ k q. Found s (Contents (NumberIn form) (content.Kv k) p) p q) (put_at form s a)
   unfolding put_at
   sound_put p a f =
       after (sound_span a) λ k c g.
@@ -146,26 +146,26 @@ module _ (form : Form) (s : List ℕ) (asks : Asks form s) where
       })
 
   -- A put or a delete that is read is spelled.
-  sound_key : (p : ℕ) → Says (λ k q. Found s (Contents (NumberIn form) (content.Kv k) p) p q) (key_value_of form s p)
+  sound_key : (p : ℕ) → Holds (λ k q. Found s (Contents (NumberIn form) (content.Kv k) p) p q) (key_value_of form s p)
   unfolding key_value_of
   sound_key p =
       after (sound_byte s p) λ b a f.
       is b 1 _ _ _ (λ e. sound_put p a (rw e at f))
       (is b 2 _ _ _ (λ e. after (sound_span a) λ k q g.
       holds (record { bytes = 2 ∷ g.bytes; at = join (rw e at f) g.at; has = delete (rw f.ends at g.has) }))
-      (says _))
+      refuses)
 
   -- A content that is read is spelled, and has the type that was asked for.
-  sound_content : (e b p : ℕ) → e ≤ 1024 → Says (λ c q. Content form s e b p c q) (reading.content form s e b p)
+  sound_content : (e b p : ℕ) → e ≤ 1024 → Holds (λ c q. Content form s e b p c q) (reading.content form s e b p)
   unfolding reading.content
   sound_content e b p small =
       is b 1 _ _ _ (λ x. after (sound_entries e p) λ c q f. holds (rw (← x) at f))
       (is b 2 _ _ _ (λ x. after (sound_command p) λ c q f. holds (record { found = f; kind = sym x; stated = record { few = omega arith; last = omega arith } }))
       (is b 3 _ _ _ (λ x. after (sound_key p) λ c q f. holds (record { found = f; kind = sym x; stated = record { few = omega arith; last = omega arith } }))
-      (says _)))
+      refuses))
 
   -- An item up to its tails that is read is spelled.
-  sound_head : (e p : ℕ) → e ≤ 1024 → Says (λ x q. Head form s e p x q) (head form s e p)
+  sound_head : (e p : ℕ) → e ≤ 1024 → Holds (λ x q. Head form s e p x q) (head form s e p)
   unfolding head
   sound_head e p small =
       after (sound_number form s asks p) λ g a f.
@@ -181,7 +181,7 @@ module _ (form : Form) (s : List ℕ) (asks : Asks form s) where
       })
 
   -- An item that is read, with e entries and the total t before it, is spelled, with rows within the limits.
-  pub sound_item : (e t p : ℕ) → e ≤ 1024 → Says (λ r q. Found s (ItemSpelled form e t p r) p q) (one_item form s e t p)
+  pub sound_item : (e t p : ℕ) → e ≤ 1024 → Holds (λ r q. Found s (ItemSpelled form e t p r) p q) (one_item form s e t p)
   unfolding one_item
   sound_item e t p small =
       after (sound_head e p small) λ x a f.

@@ -2,13 +2,14 @@
 -- Assumes nothing.
 use Prim.Native.Nat.{ℕ, zero, suc, ◌+◌, ◌-◌, ◌≤◌, ◌<◌, ◌^◌}
 use mathlib.Core.Path.{◌≡◌, refl, ap, ◌∙◌}
-use mathlib.Core.Bool.{true, false, not, cond, and-eq-true_iff}
+use mathlib.Core.Bool.{true, false, not, and-eq-true_iff}
 use mathlib.Core.List.{List, [], ◌∷◌, ◌++◌, map, append_assoc}
 use native.Mathlib.Omega.{arith}
 use lib.ListN.{length, drop, length-take}
 use lib.Seq.{take_at}
 use lib.Dec.{ltb, leb, lit<}
 use borrow.Author.Tests.{not-true, ltb-false, leb-true}
+use Rattle.std.specs.Prelude.{Ok, Err}
 use Rattle.codec.specs.Shortest.{shortest}
 use Rattle.words.specs.Write.{placed}
 use Rattle.log_item.specs.Got.{got}
@@ -35,11 +36,12 @@ use Rattle.log_item.proofs.Forms.{in_form}
 use Rattle.log_item.proofs.Complete.{complete_item}
 use Rattle.log_item.specs.Bytes.{span_bytes, command_bytes, op_bytes, entries_bytes, content_bytes, head_bytes, tails_bytes}
 use Rattle.log_item.specs.Refusing.{op_inside, content_inside, content_refusal}
-use Rattle.refusal.proofs.First.{neither_refused, taken}
+use Rattle.refusal.specs.First.{Checked, fine, ◌>>=◌}
+use Rattle.refusal.specs.declared.Reason.{Reason}
 use Rattle.log_item.specs.Written.{sum_of, row_lengths, item_bytes, tail_refusal, item_refusal}
 use Rattle.log_item.specs.Relocated.{span_at, key_at, stated, content_at, item_at, rows_from, item_rows_of, spans_of, numbers_of, Small}
 use Rattle.log_item.proofs.Lengths.{part_length, span_length_lem}
-use Rattle.log_item.proofs.Refusals.{content_inside_lem, content_allowed}
+use Rattle.log_item.proofs.Refusals.{passed, content_inside_lem, content_allowed}
 use Rattle.log_item.proofs.Stores.{stored_placed, stored_stands}
 use Rattle.log_item.proofs.Tails.{sum_rises}
 
@@ -66,7 +68,7 @@ content_written s p (contents.Kv k) h z = go k.op h z
   where
     go : (o : Op) → op_inside s k.key o ≡ true → Small (numbers_of (contents.Kv (record { key = k.key; op = o }))) → Contents (NumberIn Plain) (contents.Kv (key_at p k.key o)) p (op_bytes s k.key o)
     go (Put v) i (one a (one b c)) =
-        let both = (and-eq-true_iff _ _).0 i in
+        let both : (inside s k.key ≡ true) × (inside s v ≡ true) = (and-eq-true_iff _ _).0 i in
         let e : p + 1 + length (span_bytes s k.key) ≡ p + 1 + length (shortest k.key.len) + k.key.len = omega (arith, span_length_lem s k.key both.0) in
         rw e at (put (span_written s (p + 1) k.key both.0 a) (span_written s (p + 1 + length (span_bytes s k.key)) v both.1 b))
     go Del i (one a c) = delete (span_written s (p + 1) k.key i a)
@@ -137,7 +139,7 @@ module _ (s : List ℕ) {b : List ℕ} where
       go : (o : Op) → op_inside s k.key o ≡ true → At b p q (op_bytes s k.key o)
           → map (bytes_of b) (spans_of (contents.Kv (key_at p k.key o))) ≡ map (bytes_of s) (spans_of (contents.Kv (record { key = k.key; op = o })))
       go (Put v) i f =
-          let both = (and-eq-true_iff _ _).0 i in
+          let both : (inside s k.key ≡ true) × (inside s v ≡ true) = (and-eq-true_iff _ _).0 i in
           let c = cut (span_bytes s k.key) (cut (1 ∷ []) f).1 in
           let e : p + 1 + length (span_bytes s k.key) ≡ p + 1 + length (shortest k.key.len) + k.key.len = omega (arith, span_length_lem s k.key both.0) in
           let key = span_kept k.key both.0 c.0 in
@@ -211,15 +213,20 @@ pub record ItemAccepted (s : List ℕ) (x : LogItem) (lengths : List ℕ) (t : �
   pub few : (entries_of x.content).count ≤ 1024
   pub last : (entries_of x.content).first_index + (entries_of x.content).count ≤ 2 ^ 64
 
+-- Where nothing is refused, neither is what is looked at first, nor what is looked at then.
+neither_refused : (r : Checked Reason) {m : Checked Reason} → ◌>>=◌ r (λ u. m) ≡ fine → (r ≡ fine) × (m ≡ fine)
+neither_refused (Ok u) e = (refl, e)
+neither_refused (Err x) e = absurd (cc)
+
 pub encode_accepted : (s : List ℕ) (x : LogItem) (lengths : List ℕ) (t : ℕ) (out : List ℕ) (at : ℕ) → Small (x.raft_group_id ∷ numbers_of x.content)
-    → item_refusal s x lengths t out at ≡ 0 → ItemAccepted s x lengths t out at
+    → item_refusal s x lengths t out at ≡ fine → ItemAccepted s x lengths t out at
 unfolding item_refusal
 encode_accepted s x lengths t out at (one g z) h =
     let long : ℕ = at + length (item_bytes s x lengths t) in
-    let a = neither_refused (content_refusal s false 0 (length lengths) x.content) _ h in
-    let b = neither_refused (tail_refusal x lengths t) (cond (leb long (length out)) 0 21) a.1 in
-    let c = taken (leb long (length out)) 20 0 b.1 in
-    let d = taken (not (ltb 4294967295 (sum_of t (row_lengths x lengths)))) 15 0 b.0 in
+    let a = neither_refused (content_refusal s false 0 (length lengths) x.content) h in
+    let b = neither_refused (tail_refusal x lengths t) a.1 in
+    let c = passed (leb long (length out)) _ b.1 in
+    let d = passed (not (ltb 4294967295 (sum_of t (row_lengths x lengths)))) _ b.0 in
     let allowed = content_allowed s false 0 (length lengths) x.content a.0 in
     record {
       writable = record {
@@ -236,7 +243,7 @@ encode_accepted s x lengths t out at (one g z) h =
 -- ---- what is promised
 
 module _ (s : List ℕ) (x : LogItem) (lengths : List ℕ) (t : ℕ) (out : List ℕ) (at : ℕ) (small : Small (x.raft_group_id ∷ numbers_of x.content))
-    (fine : item_refusal s x lengths t out at ≡ 0) where
+    (fine : item_refusal s x lengths t out at ≡ fine) where
   -- What `LogItem::encode` does not refuse is spelled, with shortest numbers, by the item with its places worked out.
   pub encode_spelled : OneItem (NumberIn Plain) (item_at at x) (item_rows_of x lengths t) t (sum_of t (row_lengths x lengths)) at (item_bytes s x lengths t)
   encode_spelled = written_item s x lengths t (encode_accepted s x lengths t out at small fine).writable at

@@ -1,23 +1,24 @@
 -- Runs of stores, one after the other, and what a function that tests for room answers.
 -- Assumes nothing.
-use Prim.Native.Nat.{ℕ, suc, ◌+◌, ◌≤◌, ◌<◌}
+use Prim.Native.Nat.{ℕ, suc, ◌+◌, ◌-◌, ◌≤◌, ◌<◌, ◌^◌}
 use mathlib.Core.Path.{◌≡◌, refl, sym, ap, ◌∙◌}
 use mathlib.Core.Bool.{Bool, true, false}
 use mathlib.Core.List.{List, [], ◌∷◌, ◌++◌, append_assoc}
 use native.Mathlib.Omega.{arith}
 use lib.Dec.{leb}
 use lib.ListN.{length, take, drop, set, length-append}
-use lib.Seq.{sets, length-sets, sets-eq, drop_at, length-take-le}
+use lib.Seq.{sets, length-sets, sets-eq, drop-drop, drop_at, length-take-le}
+use borrow.Rule.Slice.PartMut.{put_mid}
 use borrow.Author.Tests.{le-leb, lt-leb, leb-true, leb-false}
-use Rattle.words.specs.Write.{wrote_at, next_at, placed}
-use Rattle.words.specs.declared.Wrote.{Wrote}
-use Rattle.words.specs.declared.Wrote.TheVariants.{Next, NoRoom}
+use Rattle.words.specs.Write.{next_at, placed}
 use Rattle.words.proofs.Writing.{room_for}
-use Rattle.log_item.specs.declared.PartWrote.TheVariants as part
+use Rattle.std.specs.Prelude.{Ok, Err}
+use Rattle.refusal.specs.First.{fine}
+use Rattle.refusal.specs.declared.Reason.{Reason}
 use Rattle.log_item.specs.Written.{piece_refusal, PieceWritten}
 use Rattle.words.specs.Place.{At}
 use Rattle.log_item.specs.Private.{Room, Stored, fitted}
-use Rattle.refusal.proofs.First.{other_answer, taken}
+use Rattle.log_item.proofs.Refusals.{passed}
 
 sets_append : (bs cs out : List ℕ) (at : ℕ) → sets out at (bs ++ cs) ≡ sets (sets out at bs) (at + length bs) cs
 sets_append [] cs out at = let e : at ≡ at + 0 = omega arith in ap (λ (k : ℕ). sets out k cs) e
@@ -55,9 +56,21 @@ room_then {bs = bs} cs p h = record { fits = omega (arith, length-append bs cs, 
 pub room_first : {out : List ℕ} {at : ℕ} (bs cs : List ℕ) → Room out at (bs ++ cs) → Room out at bs
 room_first bs cs h = record { fits = omega (arith, length-append bs cs, h.fits) }
 
+-- For bytes that are stored one after the other
+pub ruleset in_turn = (room_first, room_then, stored_then)
+
 -- Bytes that there is room for are stored where they are placed.
 pub stored_placed : {out later : List ℕ} {at n : ℕ} {bs : List ℕ} → Room out at bs → n ≡ at + length bs → later ≡ placed out at bs → Stored out at bs n later
 stored_placed {out} {later} {at} {n} {bs} h e p = record { after = e; stored = (simp (le-leb _ _ h.fits) at p) ∙ sym (sets-eq bs out at h.fits) }
+
+-- Bytes that were copied to a place.
+pub stored_copied : {out : List ℕ} {at : ℕ} {bs : List ℕ} (k next : ℕ) (copied : List ℕ) → Room out at bs → k ≡ length bs → next ≡ at + length bs → copied ≡ bs
+    → Stored out at bs next (put_mid at k out copied)
+stored_copied {out} {at} {bs} k next copied h e n same =
+    record {
+      after = n;
+      stored = rw (e, same, drop-drop (length bs) at out) (sym (append_assoc (take at out) bs (drop (at + length bs) out)) ∙ sym (sets-eq bs out at h.fits));
+    }
 
 -- Bytes that were stored at a place stand there.
 pub stored_stands : {out later : List ℕ} {at n : ℕ} {bs : List ℕ} → Room out at bs → Stored out at bs n later → At later at n bs
@@ -69,65 +82,39 @@ stored_stands {out} {later} {at} {n} {bs} h w =
     let second : drop n later ≡ tail = ap (drop n) whole ∙ drop_at (take at out ++ bs) tail n (omega (arith, length-append (take at out) bs, w.after)) in
     record { stand = first ∙ ap (λ (l : List ℕ). bs ++ l) (sym second); ends = w.after }
 
--- What a call that had room did.
-module _ {out later : List ℕ} {at : ℕ} {bs : List ℕ} {r : Wrote} (h : Room out at bs) (p : (r ≡ wrote_at out at bs) × (later ≡ placed out at bs)) where
-  fits : r ≡ Next (at + length bs)
-  fits = simp (le-leb _ _ h.fits) at p.0
-
-  pub took : {n : ℕ} → r ≡ Next n → Stored out at bs n later
-  took {n} e =
-      let f : r ≡ Next (at + length bs) = fits in
-      stored_placed h (cc) p.1
-
-  pub never_short : {n : ℕ} → r ≡ NoRoom → Stored out at bs n later
-  never_short {n} e =
-      let f : r ≡ Next (at + length bs) = fits in
-      let z : ◌≡◌ {A = ℕ} 0 1 = cc in
-      absurd (omega arith)
-
 pub stored_at : {out later : List ℕ} {at next : ℕ} {bs : List ℕ} → Room out at bs → (next ≡ next_at out at bs) × (later ≡ placed out at bs) → Stored out at bs next later
 unfolding next_at
 stored_at h p = stored_placed h (simp (le-leb _ _ h.fits) at p.0) p.1
 
--- A length, none above the largest number, tells whether bytes fit: no buffer is that long.
-module _ (out bs : List ℕ) (at : ℕ) {n l : ℕ} {r : Bool} (small : length out < 18446744073709551615) (e : length bs ≡ n) (g : l ≡ fitted n) (t : r ≡ leb (at + l) (length out)) where
-  pub room_told : r ≡ true → Room out at bs
-  room_told h = let k : at + l ≤ length out = leb-true _ _ (sym t ∙ h) in record { fits = omega arith }
-
-  pub short_told : r ≡ false → length out < at + length bs
-  short_told h = let k : length out < at + l = leb-false _ _ (sym t ∙ h) in omega arith
-
 -- Bytes for which there is room are not refused.
-pub none_refused : {b : Bool} {out bs : List ℕ} {at : ℕ} → b ≡ true → Room out at bs → piece_refusal b at (length bs) (length out) ≡ 0
+pub none_refused : {b : Bool} {out bs : List ℕ} {at : ℕ} → b ≡ true → Room out at bs → piece_refusal b at (length bs) (length out) ≡ fine
 unfolding piece_refusal
 none_refused i h = rw (i, le-leb _ _ h.fits)
 
+-- A length, none above the largest number, tells whether bytes fit: no buffer is that long.
+pub refusal_told : (b : Bool) (at m n all : ℕ) → (b ≡ true → n ≡ m) → all < 2 ^ 64 - 1 → piece_refusal b at (fitted m) all ≡ piece_refusal b at n all
+unfolding piece_refusal
+refusal_told b at m n all e small = go b e
+  where
+    told : n ≡ m → (c : Bool) → leb (at + n) all ≡ c → leb (at + fitted m) all ≡ c
+    told f true h = let k : at + n ≤ all = leb-true _ _ h in le-leb (at + fitted m) all (omega arith)
+    told f false h = let k : all < at + n = leb-false _ _ h in lt-leb (at + fitted m) all (omega arith)
+
+    go : (d : Bool) → (d ≡ true → n ≡ m) → piece_refusal d at (fitted m) all ≡ piece_refusal d at n all
+    go true f = rw (told (f refl) (leb (at + n) all) refl)
+    go false f = refl
+
 -- The answers of a function that tests first whether spans lie in the store and whether bytes fit.
-module _ (b : Bool) (out bs : List ℕ) (at : ℕ) {d : Bool} {n l r : ℕ} (small : length out < 18446744073709551615) (e : b ≡ true → length bs ≡ n) (same : d ≡ b)
-    (g : l ≡ fitted n) (t : r ≡ piece_refusal d at l (length out)) where
-  same_refusal : r ≡ piece_refusal b at (length bs) (length out)
-  unfolding piece_refusal
-  same_refusal = t ∙ ap (λ (c : Bool). piece_refusal c at l (length out)) same ∙ go b e
-    where
-      told : length bs ≡ n → (c : Bool) → leb (at + l) (length out) ≡ c → leb (at + length bs) (length out) ≡ c
-      told f true h = let k : at + l ≤ length out = leb-true _ _ h in le-leb (at + length bs) (length out) (omega arith)
-      told f false h = let k : length out < at + l = leb-false _ _ h in lt-leb (at + length bs) (length out) (omega arith)
+module _ (b : Bool) (out bs : List ℕ) (at : ℕ) where
+  pub piece_refused : {x : Reason} → piece_refusal b at (length bs) (length out) ≡ Err x → PieceWritten b bs out at (Err x) out
+  piece_refused e = record { answer = rw e; written = rw e }
 
-      go : (d : Bool) → (d ≡ true → length bs ≡ n) → piece_refusal d at l (length out) ≡ piece_refusal d at (length bs) (length out)
-      go true f = rw (told (f refl) (leb (at + l) (length out)) refl)
-      go false f = refl
-
-  pub piece_refused : (r ≡ 0 → ⊥) → PieceWritten b bs out at (part.Refused r) out
-  piece_refused h = record { answer = rw (← same_refusal) (other_answer r _ _ h); written = rw (← same_refusal) (other_answer r _ _ h) }
-
-  module _ (z : r ≡ 0) where
-    pub piece_ready : (b ≡ true) × Room out at bs
+  module _ (z : piece_refusal b at (length bs) (length out) ≡ fine) where
+    pub piece_ready : Room out at bs
     unfolding piece_refusal
-    piece_ready =
-        let p = taken b 12 _ (sym same_refusal ∙ z) in
-        (p.0, record { fits = leb-true _ _ (taken (leb (at + length bs) (length out)) 20 0 p.1).0 })
+    piece_ready = record { fits = leb-true _ _ (passed (leb (at + length bs) (length out)) _ (passed b _ z).1).0 }
 
-    pub piece_stored : {next : ℕ} {later : List ℕ} → Stored out at bs next later → PieceWritten b bs out at (part.Next next) later
+    pub piece_stored : {next : ℕ} {later : List ℕ} → Stored out at bs next later → PieceWritten b bs out at (Ok next) later
     piece_stored {next} {later} w =
-        let p = room_for out at bs later next piece_ready.1.fits (w.stored, w.after) in
-        record { answer = rw (← same_refusal, z) (ap part.Next w.after); written = rw (← same_refusal, z) p.1 }
+        let p = room_for out at bs later next piece_ready.fits (w.stored, w.after) in
+        record { answer = rw z (ap Ok w.after); written = rw z p.1 }

@@ -1,8 +1,9 @@
--- Reading a piece from a place on: the piece with the place after it, or the number of the first check that failed.
--- A definition is a list of steps; a line `test else 14` is one of them, and refuses with 14 where the test fails.
+-- Reading a piece from a place on: the piece with the place after it, or the first check that failed.
+-- A definition is a list of steps; a line `test else EntriesTooMany` is one of them, and refuses for that reason where the test fails.
 -- Assumes nothing.
 use Rattle.std.specs.Prelude.{ℕ, true, false}
 use Rattle.refusal.specs.First.{Check}
+use Rattle.refusal.specs.declared.Reason.{Reason}
 pub use Rattle.refusal.specs.First.{◌else◌}
 pub use Rattle.words.specs.Got.{Got, got, refused}
 
@@ -19,7 +20,7 @@ module _ {A : Type 0} where
   abbrev pub upto : ℕ → A → Reading A
   upto q x = λ p. got x q
 
-  abbrev pub refuse : ℕ → Reading A
+  abbrev pub refuse : Reason → Reading A
   refuse r = λ p. refused r
 
 -- the place itself
@@ -34,6 +35,6 @@ module _ {A B : Type 0} where
   abbrev pub ◌>>=◌ : Reading A → (A → Reading B) → Reading B
   ◌>>=◌ m f = λ p. bind (m p) f
 
-abbrev pub ◌>>◌ : {A : Type 0} → Check ℕ → Reading A → Reading A
+abbrev pub ◌>>◌ : {A : Type 0} → Check Reason → Reading A → Reading A
 ◌>>◌ (◌else◌ true r) m = m
 ◌>>◌ (◌else◌ false r) m = refuse r

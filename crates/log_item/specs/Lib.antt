@@ -13,4 +13,5 @@ pub mod Bytes
 pub mod Refusing
 pub mod Written
 pub mod Relocated
+pub mod Passing
 pub mod Private

@@ -1,6 +1,7 @@
 -- The bytes of a span, whether they lie in the store, and the internal prefix of a key.
 -- Assumes nothing.
-use Rattle.std.specs.Prelude.{ℕ, ◌+◌, Bool, true, false, ◌&&◌, List, [], ◌∷◌, eqb, leb, length, take, drop}
+use Rattle.std.specs.Prelude.{ℕ, ◌+◌, Bool, List, [], ◌∷◌, nat_eq, leb, length, take, drop}
+use Rattle.std.specs.List.{starts_with}
 use Rattle.log_item.specs.declared.Span.{Span}
 
 -- INTERNAL_KEY_PREFIX of src/lib.rs
@@ -8,10 +9,8 @@ abbrev pub prefix : List ℕ
 prefix = 0x5F ∷ 0x5F ∷ []
 
 -- the bytes begin with the second list
-unfoldable pub begins : List ℕ → List ℕ → Bool
-begins bs [] = true
-begins [] (p ∷ ps) = false
-begins (b ∷ bs) (p ∷ ps) = eqb b p && begins bs ps
+abbrev pub begins : List ℕ → List ℕ → Bool
+begins bs ps = starts_with nat_eq bs ps
 
 -- the bytes of a span
 abbrev pub bytes_of : List ℕ → Span → List ℕ

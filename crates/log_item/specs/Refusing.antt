@@ -1,7 +1,7 @@
--- Which refusal a writer gives an item, but for 16: the checks in the order of document 01, each with its number; 0 is none.
+-- Why a writer refuses an item, but for 16: the checks in the order of document 01, each with its reason.
 -- Assumes nothing.
-use Rattle.std.specs.Prelude.{ℕ, zero, suc, ◌+◌, ◌-◌, Bool, true, not, ◌&&◌, List, leb}
-use Rattle.refusal.specs.First.{◌else◌, ◌>>◌}
+use Rattle.std.specs.Prelude.{ℕ, zero, suc, ◌+◌, ◌-◌, Bool, true, not, ◌&&◌, Err, List, leb}
+use Rattle.refusal.specs.First.{◌else◌, ◌>>◌, Checked, fine}
 use Rattle.log_item.specs.Prefix.{prefix, begins, bytes_of, inside}
 use Rattle.log_item.specs.declared.Span.{Span}
 use Rattle.log_item.specs.declared.Op.{Op}
@@ -9,17 +9,18 @@ use Rattle.log_item.specs.declared.Op.TheVariants.{Put, Del}
 use Rattle.log_item.specs.declared.EntryIndexes.{EntryIndexes}
 use Rattle.log_item.specs.declared.LogItemContent.{LogItemContent}
 use Rattle.log_item.specs.declared.LogItemContent.TheVariants as contents
+use Rattle.refusal.specs.declared.Reason.{Reason}
 use Rattle.refusal.specs.declared.Reason.TheVariants.{EntriesTooMany, IndexTooLarge, KeyInternal, SpanOutside}
 
 -- 17 where n > 0 and the index i + n - 1, that of the last, is above 2^64 - 1
-abbrev pub index_refusal : ℕ → ℕ → ℕ
-index_refusal zero i = 0
+abbrev pub index_refusal : ℕ → ℕ → Checked Reason
+index_refusal zero i = fine
 index_refusal (suc n) i = do
   leb (i + n) 18446744073709551615 else Err IndexTooLarge
-  0
+  fine
 
 -- 14, 13, 17: items before use `used` of the `rows` that are lent, and this one needs as many as it counts
-unfoldable pub entries_refusal : ℕ → ℕ → EntryIndexes → ℕ
+unfoldable pub entries_refusal : ℕ → ℕ → EntryIndexes → Checked Reason
 entries_refusal used rows e = do
   leb (used + e.count) 1024 else Err EntriesTooMany
   leb e.count (rows - used) else Err SpanOutside
@@ -31,20 +32,20 @@ op_inside s key (Put v) = inside s key && inside s v
 op_inside s key Del = inside s key
 
 -- 23 for a put where keys are looked at
-abbrev pub internal_refusal : List ℕ → Bool → Span → Op → ℕ
+abbrev pub internal_refusal : List ℕ → Bool → Span → Op → Checked Reason
 internal_refusal s checked key (Put v) = do
   not (checked && begins (bytes_of s key) prefix) else Err KeyInternal
-  0
-internal_refusal s checked key Del = 0
+  fine
+internal_refusal s checked key Del = fine
 
-unfoldable pub key_refusal : List ℕ → Bool → Span → Op → ℕ
+unfoldable pub key_refusal : List ℕ → Bool → Span → Op → Checked Reason
 key_refusal s checked key op = do
   op_inside s key op else Err SpanOutside
   internal_refusal s checked key op
 
-unfoldable pub content_refusal : List ℕ → Bool → ℕ → ℕ → LogItemContent → ℕ
+unfoldable pub content_refusal : List ℕ → Bool → ℕ → ℕ → LogItemContent → Checked Reason
 content_refusal s checked used rows (contents.EntryIndexes e) = entries_refusal used rows e
-content_refusal s checked used rows (contents.Command c) = 0
+content_refusal s checked used rows (contents.Command c) = fine
 content_refusal s checked used rows (contents.Kv k) = key_refusal s checked k.key k.op
 
 -- the spans of a content lie in the store

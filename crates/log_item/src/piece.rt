@@ -1,73 +1,58 @@
 // The smallest pieces of an item, each read at a place: a number, a byte, a span.
 ghost use Rattle.std.specs.Prelude.{◌≡◌};
+ghost use Rattle.words.specs.Got.{got_of};
 ghost use Rattle.log_item.specs.Pieces.{number, byte, span};
-ghost use Rattle.log_item.specs.Answers.{field_got};
-ghost use Rattle.log_item.specs.Private.{span_got};
 
-use crate::{Field, Form, Span, SpanRead};
-use codec::NumberRead;
-use words::wide;
-
-// What Form::Plain alone refuses. Document 01 has no such number, and no caller of this crate sees it: LogItem::pass answers Padded.
-pub(crate) const NOT_SHORTEST: u32 = 8;
+use crate::{Form, Span};
+use refusal::Reason;
+use words::Piece;
 
 // A length and as many bytes: where these stand.
-pub(crate) fn read_span(buf: &[u8], at: usize, form: Form) -> SpanRead
-    ensures { span_got result ≡ span form buf.now at }
+#[tactic(auto, using(crate::proofs::NumberGot::number_inside), unfolding(crate::specs::Pieces::span))]
+pub(crate) fn read_span(buf: &[u8], at: usize, form: Form) -> Result<Piece<Span>, Reason>
+    ensures { got_of result ≡ span form buf.now at }
 {
-    match read_number_in(buf, at, form) {
-        Field::Done { value, next } => {
-            if ((buf.len() - next) as u64) < value {
-                return SpanRead::Refused(refusal::SPAN_OUTSIDE);
-            }
-            let len = value as usize;
-            SpanRead::Done {
-                span: Span { at: next, len },
-                next: next + len,
-            }
-        }
-        Field::Refused(number) => SpanRead::Refused(number),
+    let Piece { value: len, next } = read_number_in(buf, at, form)?;
+    if ((buf.len() - next) as u64) < len {
+        return Err(Reason::SpanOutside);
     }
+    let len = len as usize;
+    Ok(Piece {
+        value: Span { at: next, len },
+        next: next + len,
+    })
 }
 
 // The number at a place, in any permitted spelling.
-pub fn read_number(buf: &[u8], at: usize) -> Field
-    ensures { field_got result ≡ number Form.Any buf.now at }
+#[tactic(auto, unfolding(crate::specs::Pieces::number))]
+pub fn read_number(buf: &[u8], at: usize) -> Result<Piece<u64>, Reason>
+    ensures { got_of result ≡ number Form.Any buf.now at }
 {
-    match codec::decode_var_u64(buf, at) {
-        NumberRead::Done { value, next } => Field::Done { value, next },
-        NumberRead::Eof => Field::Refused(refusal::NUMBER_BROKEN),
-        NumberRead::Overflow => Field::Refused(refusal::NUMBER_BROKEN),
-    }
+    codec::decode_var_u64(buf, at).map_err(|_| Reason::NumberBroken)
 }
 
 // The number at a place, in the form asked for.
-pub(crate) fn read_number_in(buf: &[u8], at: usize, form: Form) -> Field
-    ensures { field_got result ≡ number form buf.now at }
+#[tactic(auto, unfolding(crate::specs::Pieces::number))]
+pub(crate) fn read_number_in(buf: &[u8], at: usize, form: Form) -> Result<Piece<u64>, Reason>
+    ensures { got_of result ≡ number form buf.now at }
 {
-    match read_number(buf, at) {
-        Field::Done { value, next } => {
-            if let Form::Plain = form {
-                if next - at != codec::var_u64_len(value) {
-                    return Field::Refused(NOT_SHORTEST);
-                }
-            }
-            Field::Done { value, next }
+    let n = read_number(buf, at)?;
+    if let Form::Plain = form {
+        if n.next - at != codec::var_u64_len(n.value) {
+            return Err(Reason::NotShortest);
         }
-        Field::Refused(number) => Field::Refused(number),
     }
+    Ok(n)
 }
 
 // The byte at a place.
-pub(crate) fn read_byte(buf: &[u8], at: usize) -> Field
-    ensures { field_got result ≡ byte buf.now at }
+#[tactic(auto, unfolding(crate::specs::Pieces::byte))]
+pub(crate) fn read_byte(buf: &[u8], at: usize) -> Result<Piece<u8>, Reason>
+    ensures { got_of result ≡ byte buf.now at }
 {
-    if at < buf.len() {
-        Field::Done {
-            value: wide(buf[at]),
-            next: at + 1,
-        }
-    } else {
-        Field::Refused(refusal::NUMBER_BROKEN)
-    }
+    let value = *buf.get(at).ok_or(Reason::NumberBroken)?;
+    Ok(Piece {
+        value,
+        next: at + 1,
+    })
 }

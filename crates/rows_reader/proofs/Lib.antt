@@ -1,4 +1,3 @@
-pub mod Stores
 pub mod Storing
 pub mod Reading
 pub mod Determined

@@ -1,12 +1,13 @@
 -- What reading into lent rows answers, and what the rows hold afterwards.
 -- Assumes nothing.
-use Rattle.std.specs.Prelude.{◌≡◌, ℕ, ◌&&◌, List, ◌++◌, length, drop, nat_le}
+use Rattle.std.specs.Prelude.{◌≡◌, ℕ, ◌&&◌, List, ◌++◌, length, drop, nat_le, Result}
 use Rattle.refusal.specs.First.{◌else◌, ◌>>◌}
 use Rattle.item_row.specs.Row.{item_row_count, entry_row_count, items_words, entries_words}
 use Rattle.log_batch.specs.declared.BodyCheck.{BodyCheck}
 use Rattle.log_batch.specs.Reading.{Answer, accepted, rejected}
 use Rattle.log_batch.specs.Answers.{check_of}
 use Rattle.refusal.specs.declared.Reason.TheVariants.{OutputShort}
+use Rattle.refusal.specs.declared.Refusal.{Refusal}
 
 -- an answer that has more rows than are lent is a 21
 abbrev pub fitting : List ℕ → List ℕ → Answer → Answer
@@ -30,6 +31,6 @@ pub record Filled (a : Answer) (items entries later more : List ℕ) : Type 0 wh
   pub entry_rows : more ≡ entries_after a entries
 
 -- the answer r to a reading that comes to a, and the rows that are lent
-pub record RowsRead (a : Answer) (items entries : List ℕ) (r : BodyCheck) (later more : List ℕ) : Type 0 where
+pub record RowsRead (a : Answer) (items entries : List ℕ) (r : Result BodyCheck Refusal) (later more : List ℕ) : Type 0 where
   pub answer : r ≡ check_of (fitting items entries a)
   pub rows : Filled (fitting items entries a) items entries later more

@@ -1,15 +1,10 @@
 -- What the contracts of private functions cite: this file serves them alone, and no public contract.
 -- Assumes nothing.
 use Rattle.std.specs.Prelude.{◌≡◌, ℕ, ◌*◌, ◌≤◌, List, length}
-use Rattle.std.proofs.lemmas.List.Edits.{sets}
 use Rattle.log_item.specs.declared.Form.TheVariants.{Any}
 use Rattle.log_item.specs.declared.LogItem.{LogItem}
 use Rattle.log_item.specs.declared.EntryIndex.{EntryIndex}
 use Rattle.log_batch.specs.Reading.{accepted, read_items}
-
--- Words are stored from a place on.
-pub record Words (rows : List ℕ) (at : ℕ) (words later : List ℕ) : Type 0 where
-  pub stored : later ≡ sets rows at words
 
 -- The body is accepted, and its rows fit.
 pub record Fits (s items entries : List ℕ) : Type 0 where

@@ -14,8 +14,7 @@ ghost use Rattle.log_item.specs.declared.EntryIndex.{EntryIndex};
 ghost use Rattle.item_reader.specs.Stepping.{GoesThrough};
 ghost use Rattle.speed.specs.Replies.{count_reply, steps_reply};
 
-use item_reader::{Cursor, EntryRows, Next, RowRead};
-use log_batch::BodyCheck;
+use item_reader::{Cursor, EntryRows};
 
 // How many items a body without its footer has.
 #[unsafe(no_mangle)]
@@ -23,24 +22,20 @@ pub extern "C" fn speed_check_items(body: &[u8], answer: &mut [u64; 1]) -> u32
     ensures { reply result answer.new ≡ count_reply (check_of (read_items Any body.now)) }
 {
     match log_batch::check_items(body) {
-        BodyCheck::Accepted {
-            items,
-            entries: _,
-            total: _,
-            next: _,
-        } => {
-            *answer = [items as u64];
-            refusal::NONE
+        Ok(check) => {
+            *answer = [check.items as u64];
+            0
         }
-        BodyCheck::Refused(refusal) => {
+        Err(why) => {
             *answer = [0];
-            refusal.number
+            why.reason.number()
         }
     }
 }
 
 // A body stepped through by a cursor, and each item's rows one by one: how many items and entries there are.
 #[unsafe(no_mangle)]
+#[tactic(auto, using(crate::proofs::Counting::at_start, crate::proofs::Counting::item_more, crate::proofs::Counting::end_counted))]
 pub extern "C" fn speed_steps(body: &[u8], signature: u32, answer: &mut [u64; 2]) -> u32
     ensures { reply result answer.new ≡ steps_reply (check_of (read_body body.now signature)) }
 {
@@ -48,43 +43,35 @@ pub extern "C" fn speed_steps(body: &[u8], signature: u32, answer: &mut [u64; 2]
     let mut items: u64 = 0;
     let mut entries: usize = 0;
     loop {
-        let s = cursor.step(body);
-        let got = s.answer;
-        match got {
-            Next::Item { item: _, rows } => {
-                entries += count_rows(body, rows);
+        let step = cursor.step(body);
+        match step.answer {
+            Ok(Some(found)) => {
+                entries += count_rows(body, found.rows);
                 items += 1;
-                cursor = s.cursor;
+                cursor = step.cursor;
             }
-            Next::End => {
+            Ok(None) => {
                 *answer = [items, entries as u64];
-                return refusal::NONE;
+                return 0;
             }
-            Next::Refused(why) => {
+            Err(why) => {
                 *answer = [0, 0];
-                return why.number;
+                return why.reason.number();
             }
         }
     }
 }
 
 // How many rows an item has, by reading them.
+#[tactic(auto, using(item_reader::proofs::Ends::row_passed, crate::proofs::Counting::one_more, crate::proofs::Counting::room, crate::proofs::Counting::none_counted, crate::proofs::Counting::all_counted))]
 fn count_rows(body: &[u8], rows: EntryRows) -> usize
     ensures { (xs : List EntryIndex) → GoesThrough (sealed_part body.now) rows xs → result ≡ length xs }
 {
     let mut rest = rows;
     let mut n = 0;
-    loop {
-        match item_reader::next_row(body, rest) {
-            RowRead::Row {
-                row: _,
-                rest: after,
-            } => {
-                rest = after;
-                n += 1;
-            }
-            RowRead::End => return n,
-            RowRead::Refused(_) => return n,
-        }
+    while let Ok(Some(next)) = item_reader::next_row(body, rest) {
+        rest = next.rest;
+        n += 1;
     }
+    n
 }

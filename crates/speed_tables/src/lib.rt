@@ -8,9 +8,10 @@ ghost use Rattle.std.specs.Prelude.{◌≡◌};
 ghost use Rattle.log_batch.specs.Body.{read_body};
 ghost use Rattle.item_row.specs.Reply.{reply};
 ghost use Rattle.log_batch.specs.Table.{body_table};
-ghost use Rattle.speed_tables.specs.Again.{table_reply, WrittenAgain};
+ghost use Rattle.speed_tables.specs.Again.{table_reply, TableAgain, WrittenAgain};
 
 use log_batch::LogItemBatch;
+use refusal::Refusal;
 
 // A body, read into a table by value: its items, its entries, the entry total, and the place after the last item.
 #[unsafe(no_mangle)]
@@ -24,7 +25,7 @@ pub extern "C" fn speed_table(body: &[u8], signature: u32, answer: &mut [u64; 4]
         t.total as u64,
         t.next as u64,
     ];
-    t.refusal.number
+    t.refusal.map_or(0, |why| why.reason.number())
 }
 
 // A body, read into a table by value and written from it again under the same signature: its length.
@@ -37,13 +38,25 @@ pub extern "C" fn speed_write(
 ) -> u32
     ensures { WrittenAgain (body_table body.now (read_body body.now signature)) body.now signature out.old (reply result answer.new) out.new }
 {
-    let t = LogItemBatch::decode(body, signature);
-    let number = t.refusal.number;
-    if number != refusal::NONE {
-        *answer = [0];
-        return number;
+    match write_again(body, signature, out) {
+        Ok(length) => {
+            *answer = [length as u64];
+            0
+        }
+        Err(why) => {
+            *answer = [0];
+            why.reason.number()
+        }
     }
-    let e = LogItemBatch::encode_unchecked(t, body, signature, out);
-    *answer = [e.length as u64];
-    e.number
+}
+
+// The table of a body, written as a body again: its length.
+fn write_again(body: &[u8], signature: u32, out: &mut [u8]) -> Result<usize, Refusal>
+    ensures { TableAgain (body_table body.now (read_body body.now signature)) body.now signature out.old result out.new }
+{
+    let t = LogItemBatch::decode(body, signature);
+    match t.refusal {
+        Some(why) => Err(why),
+        None => t.encode_unchecked(body, signature, out),
+    }
 }

@@ -4,8 +4,8 @@ use Rattle.log_batch.specs.Seal.{sealed_part}
 use Rattle.speed.proofs.Counting.{Counted}
 use Rattle.speed.proofs.count_rows.Given as goal
 
-abbrev pub invariant-loop-after : goal.invariant-loop-after
-invariant-loop-after l = Counted (sealed_part l.body) l.initial.rest l.rest l.n
+abbrev pub invariant-loop-next : goal.invariant-loop-next
+invariant-loop-next l = Counted (sealed_part l.body) l.initial.rest l.rest l.n
 
-abbrev pub decreases-loop-after : goal.decreases-loop-after
-decreases-loop-after l = l.rest.left
+abbrev pub decreases-loop-next : goal.decreases-loop-next
+decreases-loop-next l = l.rest.left

@@ -5,8 +5,8 @@ use Rattle.log_batch.specs.Body.{read_body}
 use Rattle.speed.proofs.Counting.{Along}
 use Rattle.speed.proofs.speed_steps.Given as goal
 
-abbrev pub invariant-loop-rows : goal.invariant-loop-rows
-invariant-loop-rows l = Along l.body l.cursor l.items l.entries (read_body l.body l.signature)
+abbrev pub invariant-loop-found : goal.invariant-loop-found
+invariant-loop-found l = Along l.body l.cursor l.items l.entries (read_body l.body l.signature)
 
-abbrev pub decreases-loop-rows : goal.decreases-loop-rows
-decreases-loop-rows l = 256 - l.items
+abbrev pub decreases-loop-found : goal.decreases-loop-found
+decreases-loop-found l = 256 - l.items

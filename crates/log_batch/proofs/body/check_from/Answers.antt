@@ -1,19 +1,16 @@
--- `log_batch::body::check_from` meets its contract. The loop's invariant, `ItemsLeft`: what is still to be read comes to what the whole comes to.
+-- `log_batch::body::check_from` meets its contract.
 -- Assumes nothing.
-use Rattle.log_item.specs.Private.{passed_got}
-use Rattle.log_item.proofs.Pieces.{learnt}
-use Rattle.log_item.proofs.Passing.{passed_got_lem}
 use Rattle.log_batch.proofs.Checking.{left_next, left_refused, left_end}
 use Rattle.log_batch.proofs.body.check_from.Goals as goal
 
 pub loop-i-preserved : goal.loop-i-preserved
-loop-i-preserved c = left_next _ _ c.loop-i.invariant c.loop-i-test.true (learnt passed_got (passed_got_lem _ c.pass.ensures) c.in-Done.is)
+loop-i-preserved c = left_next _ _ c.loop-i.invariant c.loop-i-test.true c.in-Ok.ensures
 
-pub returns-in-Refused : goal.returns-in-Refused
-returns-in-Refused c = left_refused _ _ c.loop-i.invariant c.loop-i-test.true (learnt passed_got (passed_got_lem _ c.pass.ensures) c.in-Refused.is)
+pub returns-in-Err-Refused : goal.returns-in-Err-Refused
+returns-in-Err-Refused c = rw c.in-Err-Refused.field-0-is (left_refused _ _ c.loop-i.invariant c.loop-i-test.true (rw c.in-Err-Refused.field-0-is at c.in-Err-Refused.ensures))
 
-pub returns-in-Padded : goal.returns-in-Padded
-returns-in-Padded c = left_refused _ _ c.loop-i.invariant c.loop-i-test.true (learnt passed_got (passed_got_lem _ c.pass.ensures) c.in-Padded.is)
+pub returns-in-Err-Padded : goal.returns-in-Err-Padded
+returns-in-Err-Padded c = left_refused _ _ c.loop-i.invariant c.loop-i-test.true (rw c.in-Err-Padded.field-0-is at c.in-Err-Padded.ensures)
 
 pub returns : goal.returns
 returns c = left_end _ _ c.loop-i.invariant c.loop-i-test.false

@@ -1,16 +1,12 @@
--- `log_batch::front::begin` meets its contract: the answer is decided first; a batch with a length has room for header and block.
+-- `log_batch::front::begin` meets its contract: a batch of some bytes has room for header and block.
 -- Assumes nothing.
-use Rattle.log_batch.proofs.Fronts.{begun_long, begun_none, front_asked, begun_some}
+use Rattle.std.proofs.Common.{◌≤◌, arith}
+use Rattle.std.proofs.lemmas.Grind.{common_steps}
+use Rattle.log_batch.specs.Front.{measured_length}
+use Rattle.log_batch.proofs.Fronts.{front_asked}
 use Rattle.log_batch.proofs.front.begin.Goals as goal
 
-pub returns-then-m-gt-BODY_LEN_MAX : goal.returns-then-m-gt-BODY_LEN_MAX
-returns-then-m-gt-BODY_LEN_MAX c = begun_long _ _ _ _ c.if-m-gt-BODY_LEN_MAX.true c.new.ensures
-
-pub returns-then-r-eq0 : goal.returns-then-r-eq0
-returns-then-r-eq0 c = begun_none _ _ _ _ c.if-m-gt-BODY_LEN_MAX.false c.plan-r.ensures c.if-r-eq0.true
-
 pub write_front-requires : goal.write_front-requires
-write_front-requires c = front_asked _ _ _ _ c.if-m-gt-BODY_LEN_MAX.false c.plan-r.ensures c.if-r-eq0.false
-
-pub returns : goal.returns
-returns c = begun_some _ _ _ _ c.if-m-gt-BODY_LEN_MAX.false c.plan-r.ensures c.if-r-eq0.false c.write_front.ensures
+write_front-requires c =
+    let small : measured_length c.match-m.m ≤ 4294967295 = grind (arith, common_steps) in
+    front_asked c.match-m.m c.args.items c.args.content.now c.args.out.now small c.in_ok-len.ensures c.if-len-ne0.true

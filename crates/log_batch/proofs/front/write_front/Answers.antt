@@ -3,8 +3,8 @@
 use Rattle.log_batch.proofs.Fronts.{front_empty, front_filled}
 use Rattle.log_batch.proofs.front.write_front.Goals as goal
 
-pub returns-then-content-eq0 : goal.returns-then-content-eq0
-returns-then-content-eq0 c = front_empty _ _ _ c.requires.2 c.body_offset-offset.ensures c.encode_u64.ensures c.encode_u64-2.ensures c.if-content-eq0.true
+pub returns-then-is_empty : goal.returns-then-is_empty
+returns-then-is_empty c = front_empty _ _ _ c.requires.2 c.body_offset-offset.ensures c.encode_u64.ensures c.encode_u64-2.ensures c.if-is_empty.ensures
 
 pub returns : goal.returns
-returns c = front_filled _ _ _ c.requires.2 c.body_offset-offset.ensures c.encode_u64.ensures c.encode_u64-2.ensures c.if-content-eq0.false c.write_bytes.ensures c.crc32.ensures c.encode_u32_le.ensures
+returns c = front_filled _ _ _ c.requires.2 c.body_offset-offset.ensures c.encode_u64.ensures c.encode_u64-2.ensures c.if-is_empty.ensures c.write_bytes.ensures c.crc32.ensures c.encode_u32_le.ensures

@@ -1,19 +1,17 @@
 -- `log_item::writing::put_tails` meets its contract.
 -- Assumes nothing.
-use native.Mathlib.Omega.{arith}
-use Rattle.log_item.proofs.Stores.{stored_at}
+use Rattle.std.proofs.Common.{arith}
 use Rattle.log_item.proofs.Tails.{putting_small, putting_room, putting_next, putting_end}
 use Rattle.log_item.proofs.writing.put_tails.Goals as goal
 
 pub overflow_add-total : goal.overflow_add-total
-overflow_add-total c = omega (arith, putting_small _ _ c.requires.0 c.loop-i.invariant c.loop-i-test.true c.requires.1)
+overflow_add-total c = omega (arith, putting_small c.loop-len.invariant c.loop-len-test.true)
 
-pub loop-i-preserved : goal.loop-i-preserved
-loop-i-preserved c =
-    let h = c.requires.0 in
-    let v = c.loop-i.invariant in
-    let t = c.loop-i-test.true in
-    putting_next _ _ h v t (stored_at (putting_room _ _ h v t) c.put_var_u64-at.ensures)
+pub put_number-at-requires : goal.put_number-at-requires
+put_number-at-requires c = rw c.from.ensures (putting_room c.loop-len.invariant c.loop-len-test.true)
+
+pub loop-len-preserved : goal.loop-len-preserved
+loop-len-preserved c = putting_next c.loop-len.invariant c.loop-len-test.true (rw c.from.ensures at c.put_number-at.ensures)
 
 pub returns : goal.returns
-returns c = putting_end _ _ c.requires.0 c.loop-i.invariant c.loop-i-test.false
+returns c = putting_end c.loop-len.invariant c.loop-len-test.false

@@ -1,11 +1,12 @@
--- `log_item::writing::tails_size` meets its contract.
+-- The loop of `log_item::writing::tails_size`: what is left comes to what all come to.
 -- Assumes nothing.
-use Rattle.log_item.proofs.Tails.{Sizing}
-use Prim.Native.Nat.{◌-◌}
+use Rattle.std.proofs.Common.{◌≡◌, ◌<◌, ◌^◌, drop}
+use Rattle.log_item.specs.Private.{tails_size}
 use Rattle.log_item.proofs.writing.tails_size.Given as goal
 
-abbrev pub invariant-loop-i : goal.invariant-loop-i
-invariant-loop-i l = Sizing l.lengths l.count l.before l.total l.len l.i
-
-abbrev pub decreases-loop-i : goal.decreases-loop-i
-decreases-loop-i l = l.count - l.i
+abbrev pub invariant-loop-len : goal.invariant-loop-len
+invariant-loop-len l = record {
+  total : l.total < 2 ^ 32;
+  size : l.size < 2 ^ 64;
+  left : tails_size l.size (drop l.len-index l.lengths) l.total ≡ tails_size 0 l.lengths l.before;
+}
