@@ -2,10 +2,10 @@
 -- Assumes nothing.
 use Prim.Native.Nat.{ℕ, ◌+◌, ◌-◌, ◌≤◌, ◌<◌}
 use mathlib.Core.Path.{◌≡◌, refl, sym, ap, ◌∙◌}
-use mathlib.Core.Bool.{Bool, false}
+use mathlib.Core.Bool.{Bool}
 use mathlib.Core.List.{List}
 use native.Mathlib.Omega.{arith}
-use lib.Dec.{leb, eqb}
+use lib.Dec.{leb}
 use lib.Bits.{bit_xor}
 use lib.ListN.{length, take, drop, length-append}
 use lib.Seq.{sets-eq, take_at}
@@ -19,7 +19,7 @@ use Rattle.words.specs.Write.{next_at, placed}
 use Rattle.words.proofs.Words.{length_little}
 use Rattle.crc.specs.Crc.{crc_of}
 use Rattle.log_item.specs.declared.LogItem.{LogItem}
-use Rattle.log_item.specs.Private.{Room, Stored}
+use Rattle.log_item.specs.Private.{Stored}
 use Rattle.log_item.proofs.Stores.{stored_at, stored_stands, stored_then, stored_length}
 use Rattle.list_writer.specs.declared.Measured.{Measured}
 use Rattle.list_writer.specs.Bytes.{items_bytes, list_bytes, footed, body_bytes}

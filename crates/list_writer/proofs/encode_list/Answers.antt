@@ -1,13 +1,13 @@
 -- `list_writer::encode_list` meets its contract. The loops' invariant, `Writing`: what is left, stored from here on, completes count and items.
 -- Assumes nothing.
-use mathlib.Core.Path.{◌≡◌, refl, sym, ap, ◌∙◌}
-use Prim.Native.Nat.{ℕ, ◌+◌, ◌-◌, ◌≤◌}
+use mathlib.Core.Path.{◌≡◌, sym, ap, ◌∙◌}
+use Prim.Native.Nat.{◌+◌}
 use native.Mathlib.Omega.{arith}
-use lib.ListN.{length, length-map}
+use lib.ListN.{length-map}
 use Rattle.std.proofs.Common.{rules, Err}
 use Rattle.log_item.specs.declared.EntryIndexes.{EntryIndexes}
 use Rattle.list_writer.proofs.Rows.{at_map, entry_at, item_there, each_item, rows_accepted}
-use Rattle.list_writer.proofs.Writing.{Writing, row_low, item_rows, writing_item, writing_entry, writing_same}
+use Rattle.list_writer.proofs.Writing.{row_low, item_rows, writing_item, writing_entry, writing_same}
 use Rattle.list_writer.proofs.Bodies.{accepted, writing_begins, body_stored, body_length, placing_told, refused_laid, short_laid, all_laid}
 use Rattle.list_writer.proofs.encode_list.Goals as goal
 
