@@ -76,9 +76,9 @@ module _ {s : List ℕ} {checked : Bool} {xs : List LogItem} {ns : List ℕ} {lo
     (fit : at + long ≤ length out) where
   pub writing_begins : {n next : ℕ} {mid : List ℕ} → length xs ≡ n → (next ≡ next_at out at (shortest n)) × (mid ≡ placed out at (shortest n))
       → Writing s xs ns out at mid next 0 0 0 0
-  writing_begins {n} size wrote =
+  writing_begins {n} {next} {mid} size wrote =
       let same : length (shortest n) ≡ length (shortest (length xs)) = ap (λ (k : ℕ). length (shortest k)) (sym size) in
-      let p : Stored out at (shortest (length xs)) _ _ = rw size (stored_at (record { fits = omega (arith, fit, a.whole, same) }) wrote) in
+      let p : Stored out at (shortest (length xs)) next mid = rw size (stored_at (record { fits = omega (arith, fit, a.whole, same) }) wrote) in
       writing_start s checked xs ns a.total a.told p (omega (arith, fit, a.whole, p.after, stored_length p))
 
   module _ {later : List ℕ} {next i j tails t : ℕ} (w : Writing s xs ns out at later next i j tails t) (z : tails ≤ 0) (h : length xs ≤ i) where

@@ -1,13 +1,13 @@
 -- `list_writer::encode_list` meets its contract. The loops' invariant, `Writing`: what is left, stored from here on, completes count and items.
 -- Assumes nothing.
 use mathlib.Core.Path.{◌≡◌, sym, ap, ◌∙◌}
-use Prim.Native.Nat.{◌+◌}
+use Prim.Native.Nat.{◌+◌, ◌-◌, ◌+◌}
 use native.Mathlib.Omega.{arith}
 use lib.ListN.{length-map}
 use Rattle.std.proofs.Common.{rules, Err}
 use Rattle.log_item.specs.declared.EntryIndexes.{EntryIndexes}
 use Rattle.list_writer.proofs.Rows.{at_map, entry_at, item_there, each_item, rows_accepted}
-use Rattle.list_writer.proofs.Writing.{row_low, item_rows, writing_item, writing_entry, writing_same}
+use Rattle.list_writer.proofs.Writing.{Writing, row_low, item_rows, writing_item, writing_entry, writing_same}
 use Rattle.list_writer.proofs.Bodies.{accepted, writing_begins, body_stored, body_length, placing_told, refused_laid, short_laid, all_laid}
 use Rattle.list_writer.proofs.encode_list.Goals as goal
 
@@ -84,7 +84,7 @@ loop-entry-preserved g c =
     let v = c.loop-entry.invariant in
     let k = length-map c.args.entries.now g.E.EntryRow.length in
     let d = entry_at g.E.EntryRow.length c.args.entries.now c.loop-row.used _ c.loop-entry.entry-index _ c.entry-item.is (omega arith) (omega (arith, v.bytes.room)) in
-    let w =
+    let w : Writing _ _ _ _ _ _ _ (c.loop-row.row-index + 1) (c.loop-row.used + (c.loop-entry.entry-index + 1)) (c.entries-count.result.count - (c.loop-entry.entry-index + 1)) _ =
     writing_entry v.bytes _ (c.loop-entry.total + c.entry_len.result) _ _ (omega arith) d (omega (arith, c.entry_len.ensures)) (rw c.from.ensures at c.put_var_u64-next-in-loop-entry.ensures) (omega arith) (omega arith) in
     record { begun = omega arith; bytes = w }
 
