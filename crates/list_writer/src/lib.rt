@@ -21,9 +21,19 @@ pub const BODY_LEN_MAX: usize = 4294967295;
 
 const FOOTER_LEN: usize = 4;
 
-// Why a list of more than 256 items is refused.
+// Why a list is refused as a whole: its items are too many, or its bytes, or there is no room for them.
 const MANY: Refusal = Refusal {
     reason: Reason::ItemsTooMany,
+    item: 0,
+};
+
+const TOO_LONG: Refusal = Refusal {
+    reason: Reason::OutputTooLong,
+    item: 0,
+};
+
+const NO_ROOM: Refusal = Refusal {
+    reason: Reason::OutputShort,
     item: 0,
 };
 
@@ -50,11 +60,11 @@ pub fn measure(
         return Err(MANY);
     }
     let rows = &entries[..entry_count.min(1024)];
-    measure_rows(&items[..item_count], rows, store, checked)
+    measure_list(&items[..item_count], rows, store, checked)
 }
 
 // The first refusal of a list but 21, or the length of its body and its entry total.
-pub fn measure_rows<I: ItemRow, E: EntryRow>(
+pub fn measure_list<I: ItemRow, E: EntryRow>(
     items: &[I],
     entries: &[E],
     store: &[u8],
@@ -110,10 +120,7 @@ pub fn finish(size: usize, total: u32) -> Result<Measured, Refusal>
     ensures { result ≡ measured_of (Ok total) size }
 {
     if BODY_LEN_MAX - FOOTER_LEN < size {
-        return Err(Refusal {
-            reason: Reason::OutputTooLong,
-            item: 0,
-        });
+        return Err(TOO_LONG);
     }
     Ok(Measured {
         length: size + FOOTER_LEN,
@@ -139,11 +146,19 @@ pub fn encode(
         return Err(MANY);
     }
     let rows = &entries[..entry_count.min(1024)];
-    encode_rows(&items[..item_count], rows, store, signature, checked, out, at)
+    encode_list(
+        &items[..item_count],
+        rows,
+        store,
+        signature,
+        checked,
+        out,
+        at,
+    )
 }
 
 // Writes the body of a list at a place of out and answers how many bytes it has, or leaves out as it was and says why.
-pub fn encode_rows<I: ItemRow, E: EntryRow>(
+pub fn encode_list<I: ItemRow, E: EntryRow>(
     items: &[I],
     entries: &[E],
     store: &[u8],
@@ -154,7 +169,7 @@ pub fn encode_rows<I: ItemRow, E: EntryRow>(
 ) -> Result<usize, Refusal>
     ensures { MeasuredWritten (rows_measure store.now checked (map I.spelled items.now) (map E.length entries.now)) (rows_bytes store.now (map I.spelled items.now) (map E.length entries.now) signature) out.old at result out.new }
 {
-    let m = measure_rows(items, entries, store, checked)?;
+    let m = measure_list(items, entries, store, checked)?;
     let length = placing(m, out.len(), at)?;
     let mut next = codec::put_var_u64(items.len() as u64, out, at);
     let mut used: usize = 0;
@@ -180,10 +195,7 @@ pub fn placing(m: Measured, all: usize, at: usize) -> Result<usize, Refusal>
     ensures { result ≡ encoded_in (Ok m) all at }
 {
     if all < at || all - at < m.length {
-        return Err(Refusal {
-            reason: Reason::OutputShort,
-            item: 0,
-        });
+        return Err(NO_ROOM);
     }
     Ok(m.length)
 }

@@ -2,7 +2,7 @@
 -- Assumes nothing.
 use mathlib.Core.Path.{◌≡◌, refl, sym, ap, ◌∙◌}
 use Prim.Native.Nat.{ℕ, zero, suc, ◌+◌, ◌-◌, ◌*◌, ◌<◌, ◌≤◌}
-use native.Mathlib.Nat.{le_of_suc-le-suc, not-suc-le-zero, sub-zero, suc-sub-suc}
+use native.Mathlib.Nat.{div-mul-le_self, le_of_suc-le-suc, not-suc-le-zero, sub-zero, suc-sub-suc}
 use native.Mathlib.Omega.{arith}
 use mathlib.Core.Bool.{true, and-eq-true_iff}
 use mathlib.Core.List.{List, [], ◌∷◌, ◌++◌, append_assoc, flat_map}
@@ -10,11 +10,18 @@ use lib.ListN.{length, get_or, take, drop, length-drop, take-append-drop}
 use lib.Seq.{drop-drop, take-add, paste}
 use borrow.Author.Tests.{leb-true}
 use Rattle.pipe_log.specs.declared.Location.{Location}
-use Rattle.location_rows.specs.Words.{queue_of, starts_well, location_of, are_rows, locations, queue_word, row_words, rows_words}
+use Rattle.location_rows.specs.Words.{queue_of, starts_well, location_of, are_rows, locations, location_count, located, queue_word, row_words, rows_words}
 
 pub locations_length : (n : ℕ) (words : List ℕ) → length (locations n words) ≡ n
 locations_length zero words = refl
 locations_length (suc n) words = ap suc (locations_length n (drop 6 words))
+
+pub located_length : (words : List ℕ) → length (located words) ≡ location_count words
+located_length words = locations_length (location_count words) words
+
+-- so many rows are six times so many words
+pub rows_room : (words : List ℕ) (n : ℕ) → n ≤ length (located words) → n * 6 ≤ length words
+rows_room words n l = omega (arith, l, located_length words, div-mul-le_self (length words) 6)
 
 -- the words past one row more
 past : (k : ℕ) (words : List ℕ) → drop (k * 6) (drop 6 words) ≡ drop (suc k * 6) words

@@ -2,23 +2,22 @@
 -- Assumes nothing.
 use mathlib.Core.Path.{◌≡◌, refl, sym, ap, ◌∙◌}
 use Prim.Native.Nat.{ℕ, zero, suc, ◌+◌, ◌-◌, ◌*◌, ◌<◌, ◌≤◌}
-use native.Mathlib.Nat.{add-zero, sub-zero}
-use native.Mathlib.Numerals.{add-one}
+use native.Mathlib.Nat.{add-zero}
 use native.Mathlib.Omega.{arith}
-use mathlib.Core.Bool.{Bool, true, false, ◌&&◌}
-use mathlib.Core.List.{List}
+use mathlib.Core.Bool.{Bool, true, false, cond, ◌&&◌}
+use mathlib.Core.List.{List, ◌++◌}
 use lib.Dec.{leb}
-use lib.ListN.{length, get_or, take, drop}
-use lib.Seq.{drop-drop, get_or-drop}
+use lib.ListN.{length, get_or, take, drop, get_or-append, length-append}
+use lib.Seq.{drop-cons, get_or-drop}
 use borrow.Author.Tests.{le-leb, lt-leb}
+use Rattle.std.proofs.lemmas.List.{drop_at}
 use Rattle.pipe_log.specs.declared.Location.{Location}
 use Rattle.pipe_log.specs.declared.LogQueue.{LogQueue}
 use Rattle.location_rules.specs.declared.Stop.{Stop}
 use Rattle.location_rules.specs.Row.{stops_at, row_start}
 use Rattle.memtable.specs.Rows.{run_of}
-use Rattle.memtable.proofs.Runs.{no_row, run_none, stopped, goes_on}
 use Rattle.location_rows.specs.Words.{queue_of, location_of, are_rows, location_count, located}
-use Rattle.location_rows.proofs.Rows.{locations_length, location_at}
+use Rattle.location_rows.proofs.Rows.{located_length, location_at}
 
 -- ---- one row
 
@@ -36,74 +35,48 @@ stops_same (Stop.Above gate) row = refl
 at_start : (words : List ℕ) (k : ℕ) → get_or (drop k words) 0 0 ≡ get_or words k 0
 at_start words k = get_or-drop k words 0 0 ∙ ap (λ (m : ℕ). get_or words m 0) (add-zero k)
 
--- ---- whether each row is a location's
-
--- the rows before i are
-pub record Checked (words : List ℕ) (n i : ℕ) : Type 0 where
-  pub within : i ≤ n
-  pub left : are_rows n words ≡ are_rows (n - i) (drop (i * 6) words)
-
-pub checked_none : (words : List ℕ) (n : ℕ) → Checked words n 0
-checked_none words n = record { within = omega arith; left = ap (λ (m : ℕ). are_rows m words) (sym (sub-zero n)) }
-
-module _ {words : List ℕ} {n i : ℕ} (w : Checked words n i) where
-  pub checked_all : n ≤ i → true ≡ are_rows n words
-  checked_all l = sym (w.left ∙ ap (λ (m : ℕ). are_rows m (drop (i * 6) words)) none)
-    where
-      none : n - i ≡ 0
-      none = omega arith
-
-  module _ (l : i < n) where
-    one_more : are_rows n words ≡ (leb (get_or words (i * 6) 0) 1 && are_rows (n - (i + 1)) (drop ((i + 1) * 6) words))
-    one_more =
-        w.left ∙ ap (λ (m : ℕ). are_rows m (drop (i * 6) words)) some
-        ∙ (rw (at_start words (i * 6), drop-drop 6 (i * 6) words, next) refl)
-      where
-        some : n - i ≡ suc (n - (i + 1))
-        some = omega arith
-
-        next : i * 6 + 6 ≡ (i + 1) * 6
-        next = omega arith
-
-    pub checked_broken : 1 < get_or words (i * 6) 0 → false ≡ are_rows n words
-    checked_broken m = sym (one_more ∙ (rw (lt-leb (get_or words (i * 6) 0) 1 m) refl))
-
-    pub checked_next : get_or words (i * 6) 0 ≤ 1 → Checked words n (i + 1)
-    checked_next m = record { within = omega arith; left = one_more ∙ (rw (le-leb (get_or words (i * 6) 0) 1 m) refl) }
-
 -- ---- where a run ends
 
--- no row from lo to i ends it
-pub record Scanned (words : List ℕ) (stop : Stop) (lo hi i : ℕ) : Type 0 where
-  pub within : i ≤ hi
-  pub run : lo + run_of stop (take (hi - lo) (drop lo (located words))) ≡ i + run_of stop (take (hi - i) (drop i (located words)))
+-- what `get_or` gives past the end, where nothing asks for it
+abbrev no_row : Location
+no_row = row_start LogQueue.Append 0
 
-pub scanned_none : (words : List ℕ) (stop : Stop) (lo hi : ℕ) → lo ≤ hi → Scanned words stop lo hi lo
-scanned_none words stop lo hi l = record { within = l; run = refl }
+module _ (words : List ℕ) (stop : Stop) (hi : ℕ) where
+  -- the run from row i on, before hi
+  abbrev pub run_from : ℕ → ℕ
+  run_from i = run_of stop (take (hi - i) (drop i (located words)))
 
-module _ {words : List ℕ} {stop : Stop} {lo hi i : ℕ} (w : Scanned words stop lo hi i) where
-  pub scanned_all : hi ≤ i → i ≡ lo + run_of stop (take (hi - lo) (drop lo (located words)))
-  scanned_all l =
-      same ∙ sym (w.run ∙ ap (λ (m : ℕ). m + run_of stop (take (hi - m) (drop m (located words)))) same ∙ ap (λ (m : ℕ). hi + m) (run_none stop (located words) hi) ∙ add-zero hi)
+  run_step : (i : ℕ) → i < hi → hi ≤ length (located words) → run_from i ≡ cond (stops_at stop (get_or (located words) i no_row)) 0 (suc (run_from (suc i)))
+  run_step i l h =
+      ap (λ (m : ℕ). run_of stop (take m (drop i (located words)))) one
+      ∙ ap (λ (v : List Location). run_of stop (take (suc (hi - suc i)) v)) (drop-cons (located words) i no_row (omega (arith, l, h)))
     where
-      same : i ≡ hi
-      same = omega (arith, w.within)
+      one : hi - i ≡ suc (hi - suc i)
+      one = omega (arith, l)
 
-  module _ (l : i < hi) (h : hi ≤ location_count words) {b : Bool} (e : b ≡ stops_at stop (row_start (queue_of (get_or words (i * 6) 0)) (get_or words (i * 6 + 1) 0))) where
+  module _ (i : ℕ) (l : i < hi) (h : hi ≤ length (located words)) {b : Bool} (e : b ≡ stops_at stop (row_start (queue_of (get_or words (i * 6) 0)) (get_or words (i * 6 + 1) 0))) where
     row : stops_at stop (get_or (located words) i no_row) ≡ b
     row =
-        ap (stops_at stop) (location_at (location_count words) i words no_row (omega arith))
+        ap (stops_at stop) (location_at (location_count words) i words no_row (omega (arith, l, h, located_length words)))
         ∙ stops_same stop (location_of (drop (i * 6) words)) ∙ (rw (at_start words (i * 6), get_or-drop (i * 6) words 1 0) (sym e))
 
-    in_rows : hi ≤ length (located words)
-    in_rows = omega (arith, h, locations_length (location_count words) words)
+    pub run_stops : b ≡ true → run_from i ≡ 0
+    run_stops f = run_step i l h ∙ ap (λ (t : Bool). cond t 0 (suc (run_from (suc i)))) (row ∙ f)
 
-    pub scanned_stop : b ≡ true → i ≡ lo + run_of stop (take (hi - lo) (drop lo (located words)))
-    scanned_stop f = sym (stopped stop (located words) hi _ i l in_rows w.run (row ∙ f))
+    pub run_passes : b ≡ false → run_from i ≡ suc (run_from (suc i))
+    run_passes f = run_step i l h ∙ ap (λ (t : Bool). cond t 0 (suc (run_from (suc i)))) (row ∙ f)
 
-    pub scanned_next : b ≡ false → Scanned words stop lo hi (i + 1)
-    scanned_next f =
-        record {
-          within = omega arith;
-          run = goes_on stop (located words) hi _ i l in_rows w.run (row ∙ f) ∙ (rw (← add-one i) refl);
-        }
+-- ---- whether each row is a location's
+
+module _ (left row more : List ℕ) (parts : left ≡ row ++ more) (six : length row ≡ 6) where
+  one_row : are_rows (location_count left) left ≡ (leb (get_or row 0 0) 1 && are_rows (location_count more) more)
+  one_row = rw (parts, count) (ap (λ (n : ℕ). leb n 1 && are_rows (location_count more) (drop 6 (row ++ more))) (get_or-append row more 0 0 (omega arith)) ∙ ap (λ (v : List ℕ). leb (get_or row 0 0) 1 && are_rows (location_count more) v) (drop_at row more 6 six))
+    where
+      count : location_count (row ++ more) ≡ suc (location_count more)
+      count = omega (arith, length-append row more, six)
+
+  pub row_broken : 1 < get_or row 0 0 → are_rows (location_count left) left ≡ false
+  row_broken l = one_row ∙ (rw (lt-leb (get_or row 0 0) 1 l) refl)
+
+  pub row_whole : get_or row 0 0 ≤ 1 → are_rows (location_count left) left ≡ are_rows (location_count more) more
+  row_whole l = one_row ∙ (rw (le-leb (get_or row 0 0) 1 l) refl)

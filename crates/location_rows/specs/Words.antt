@@ -1,6 +1,6 @@
 -- How a location stands in a row of six words. The layout is that of raft_log.h.
 -- Assumes nothing.
-use Rattle.std.specs.Prelude.{ℕ, zero, suc, ◌/◌, Bool, true, ◌&&◌, cond, leb, length, get_or, drop}
+use Rattle.std.specs.Prelude.{ℕ, zero, suc, ◌/◌, Bool, true, ◌&&◌, cond, Option, None, Some, leb, length, get_or, drop}
 use mathlib.Core.List.{List, [], ◌∷◌, flat_map}
 use Rattle.pipe_log.specs.declared.Location.{Location}
 use Rattle.pipe_log.specs.declared.LogQueue.{LogQueue}
@@ -44,13 +44,9 @@ location_count words = length words / 6
 abbrev pub located : List ℕ → List Location
 located words = locations (location_count words) words
 
-pub data Rows : Type 0 where
-  rows : List Location → Rows
-  broken : Rows
-
--- the rows, or one of them is no location's
-unfoldable pub rows_of : List ℕ → Rows
-rows_of words = cond (are_rows (location_count words) words) (rows (located words)) broken
+-- the rows, if each is a location's
+unfoldable pub rows_of : List ℕ → Option (List Location)
+rows_of words = cond (are_rows (location_count words) words) (Some (located words)) None
 
 -- ---- from locations to words
 

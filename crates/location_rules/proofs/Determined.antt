@@ -18,6 +18,10 @@ use Rattle.location_rules.proofs.run_from.Kinds as run_from_kinds
 use Rattle.location_rules.proofs.run_from.Reads as run_from_reads
 use Rattle.location_rules.proofs.unchanged.Kinds as unchanged_kinds
 use Rattle.location_rules.proofs.unchanged.Reads as unchanged_reads
+use Rattle.location_rules.proofs.outcome.Kinds as outcome_kinds
+use Rattle.location_rules.proofs.outcome.Reads as outcome_reads
+use Rattle.location_rules.proofs.found.Kinds as found_kinds
+use Rattle.location_rules.proofs.found.Reads as found_reads
 use Rattle.location_rules.proofs.no_run.Kinds as no_run_kinds
 use Rattle.location_rules.proofs.no_run.Reads as no_run_reads
 
@@ -47,3 +51,9 @@ unchanged κs a x y s t p q = p ∙ sym q
 
 pub no_run : OneAnswer 0 no_run_kinds.ps no_run_kinds.r no_run_reads.Post (λ κs x y s t. x ≡ y)
 no_run κs a x y s t p q = p ∙ sym q
+
+pub outcome : OneAnswer 0 outcome_kinds.ps outcome_kinds.r outcome_reads.Post (λ κs x y s t. x ≡ y)
+outcome κs a x y s t p q = p ∙ sym q
+
+pub found : OneAnswer 0 found_kinds.ps found_kinds.r found_reads.Post (λ κs x y s t. x ≡ y)
+found κs a x y s t p q = p ∙ sym q

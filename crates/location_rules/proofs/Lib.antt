@@ -1,4 +1,3 @@
 pub mod Overlaps
 pub mod Deciding
-pub mod Forming
 pub mod Determined

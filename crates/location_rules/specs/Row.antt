@@ -1,9 +1,8 @@
 -- One row: which queue it is in, and whether it ends a run.
 -- Assumes nothing.
-use Rattle.std.specs.Prelude.{ℕ, Bool, true, false, ltb}
+use Rattle.std.specs.Prelude.{ℕ, Bool, true, false, Option, None, Some, ltb}
 use Rattle.pipe_log.specs.declared.Location.{Location}
 use Rattle.pipe_log.specs.declared.LogQueue.{LogQueue}
-use Rattle.location_rules.specs.declared.Gate.{Gate}
 use Rattle.location_rules.specs.declared.Stop.{Stop}
 
 abbrev pub is_append : LogQueue → Bool
@@ -27,9 +26,9 @@ stops_at Stop.Rewrite row = in_rewrite row
 stops_at (Stop.Above gate) row = ltb gate row.seq
 
 -- with a gate a stop is a row whose file number exceeds the gate; without one, a row in the append queue
-abbrev pub stop_of : Gate → Stop
-stop_of Gate.None = Stop.Append
-stop_of (Gate.Given gate) = Stop.Above gate
+abbrev pub stop_of : Option ℕ → Stop
+stop_of None = Stop.Append
+stop_of (Some gate) = Stop.Above gate
 
 -- a row as far as a stop looks at it
 abbrev pub row_start : LogQueue → ℕ → Location

@@ -1,4 +1,1 @@
-pub mod ArrayLent
-pub mod Cut
-pub mod Parts
 pub mod Determined

@@ -3,88 +3,69 @@
 #![tactic(auto)]
 
 ghost use Rattle.std.specs.Prelude.{◌≡◌};
-ghost use Rattle.location_table.specs.Private.{rows_used};
-ghost use Rattle.location_table.specs.Values.{in_reach, rewrite_value, rows_value, fetch_value, answer_of, fetched_of};
+ghost use Rattle.location_table.specs.Values.{in_reach, rewrite_value, rows_value, fetch_value};
 
-use location_rules::{Fetched, Gate, Rewritten, Table, no_run, unchanged};
+use location_rules::{Fetched, Rewritten, Table};
 use pipe_log::Location;
+use refusal::Reason;
+
+// Rows by value: the first `len` of these.
+#[derive(Clone, Copy)]
+pub struct Rows {
+    pub all: [Location; 64],
+    pub len: usize,
+}
 
 // What a rewrite by value leaves: its answer, and the rows after it.
 #[derive(Clone, Copy)]
 pub struct AfterRewrite {
-    pub answer: Rewritten,
-    pub rows: [Location; 64],
+    pub answer: Result<Rewritten, Reason>,
+    pub rows: Rows,
 }
 
-// A rewrite of the first `len` rows by the first `many` incoming ones. More than 64 of either: 21, and the rows as they were.
+// A rewrite of these rows by the incoming ones. More than 64 of either: 21, and the rows as they were.
+#[tactic(auto, unfolding(crate::specs::Values::rewrite_value, crate::specs::Values::rows_value))]
 pub fn rewrite(
-    rows: [Location; 64],
-    len: usize,
+    rows: Rows,
     table: Table,
-    incoming: [Location; 64],
-    many: usize,
+    incoming: Rows,
     first: u64,
-    gate: Gate,
+    gate: Option<u64>,
 ) -> AfterRewrite
-    ensures { result ≡ record { answer = rewrite_value rows len table incoming many first gate; rows = rows_value rows len table incoming many first gate } }
+    ensures { result ≡ record { answer = rewrite_value rows table incoming first gate; rows = rows_value rows table incoming first gate } }
 {
-    let n = used(len, many);
-    let m = used(many, len);
-    let mut t = rows;
-    let i = incoming;
-    let r = memtable::rewrite(&mut t[..n], table, &i[..m], first, gate);
+    let len = rows.len;
+    let many = incoming.len;
+    if !in_reach(len, many) {
+        return AfterRewrite {
+            answer: Err(Reason::OutputShort),
+            rows,
+        };
+    }
+    let mut all = rows.all;
+    let coming = incoming.all;
+    let answer = memtable::rewrite(&mut all[..len], table, &coming[..many], first, gate);
     AfterRewrite {
-        answer: answer(len, many, table, r),
-        rows: t,
+        answer,
+        rows: Rows { all, len },
     }
 }
 
-// The fetch before a gate of the first `len` rows. More than 64: 21.
-pub fn fetch_entry_indexes_before(
-    rows: [Location; 64],
-    len: usize,
-    table: Table,
-    gate: u64,
-) -> Fetched
-    ensures { result ≡ fetch_value rows len table gate }
+// The fetch before a gate of these rows. More than 64: 21.
+#[tactic(auto, unfolding(crate::specs::Values::fetch_value))]
+pub fn fetch_entry_indexes_before(rows: Rows, table: Table, gate: u64) -> Result<Fetched, Reason>
+    ensures { result ≡ fetch_value rows table gate }
 {
-    let n = used(len, 0);
-    let t = rows;
-    let r = memtable::fetch_entry_indexes_before(&t[..n], table, gate);
-    fetched(len, r)
+    if !in_reach(rows.len, 0) {
+        return Err(Reason::OutputShort);
+    }
+    let all = rows.all;
+    memtable::fetch_entry_indexes_before(&all[..rows.len], table, gate)
 }
 
 // Whether neither n rows nor m others are more than 64.
 fn in_reach(n: usize, m: usize) -> bool
     ensures { result ≡ in_reach n m }
 {
-    if 64 < n {
-        return false;
-    }
-    m <= 64
-}
-
-// How many rows are lent: none where there are more than 64 of these or of the others.
-fn used(len: usize, other: usize) -> usize
-    ensures { result ≡ rows_used len other }
-{
-    if in_reach(len, other) { len } else { 0 }
-}
-
-fn answer(len: usize, many: usize, table: Table, r: Rewritten) -> Rewritten
-    ensures { result ≡ answer_of len many table r }
-{
-    if in_reach(len, many) {
-        return r;
-    }
-    unchanged(refusal::OUTPUT_SHORT, table.count)
-}
-
-fn fetched(len: usize, r: Fetched) -> Fetched
-    ensures { result ≡ fetched_of len r }
-{
-    if in_reach(len, 0) {
-        return r;
-    }
-    no_run(refusal::OUTPUT_SHORT)
+    n <= 64 && m <= 64
 }

@@ -30,61 +30,61 @@ use words::Piece;
 pub(crate) const ENTRIES_MAX: usize = 1024;
 
 // Where bytes stand in the body.
-#[derive(Clone, Copy)]
+#[derive(Clone, Copy, Debug, PartialEq, Eq)]
 pub struct Span {
     pub at: usize,
     pub len: usize,
 }
 
 // Which spellings of a number are taken: any permitted one, or the shortest alone.
-#[derive(Clone, Copy)]
+#[derive(Clone, Copy, Debug, PartialEq, Eq)]
 pub enum Form {
     Any,
     Plain,
 }
 
 // A group's log is cleaned, or compacted up to an index.
-#[derive(Clone, Copy)]
+#[derive(Clone, Copy, Debug, PartialEq, Eq)]
 pub enum Command {
     Clean,
     Compact { index: u64 },
 }
 
 // What is done with a key. A delete has no content.
-#[derive(Clone, Copy)]
+#[derive(Clone, Copy, Debug, PartialEq, Eq)]
 pub enum Op {
     Put { value: Span },
     Del,
 }
 
-#[derive(Clone, Copy)]
+#[derive(Clone, Copy, Debug, PartialEq, Eq)]
 pub struct KeyValue {
     pub key: Span,
     pub op: Op,
 }
 
 // How many entries, and the index of the first (0 where there is none). The rows follow in the body as tails.
-#[derive(Clone, Copy)]
+#[derive(Clone, Copy, Debug, PartialEq, Eq)]
 pub struct EntryIndexes {
     pub count: usize,
     pub first_index: u64,
 }
 
-#[derive(Clone, Copy)]
+#[derive(Clone, Copy, Debug, PartialEq, Eq)]
 pub enum LogItemContent {
     EntryIndexes(EntryIndexes),
     Command(Command),
     Kv(KeyValue),
 }
 
-#[derive(Clone, Copy)]
+#[derive(Clone, Copy, Debug, PartialEq, Eq)]
 pub struct LogItem {
     pub raft_group_id: u64,
     pub content: LogItemContent,
 }
 
 // One entry: its index, and where its bytes stand in the block's content.
-#[derive(Clone, Copy)]
+#[derive(Clone, Copy, Debug, PartialEq, Eq)]
 pub struct EntryIndex {
     pub index: u64,
     pub entry_offset: u32,
@@ -92,7 +92,7 @@ pub struct EntryIndex {
 }
 
 // An item, the place of its tails, and the total and the number of entries after it.
-#[derive(Clone, Copy)]
+#[derive(Clone, Copy, Debug, PartialEq, Eq)]
 pub struct ItemRead {
     pub item: LogItem,
     pub tails: usize,
@@ -101,28 +101,28 @@ pub struct ItemRead {
 }
 
 // The total and the number of entries after an item.
-#[derive(Clone, Copy)]
+#[derive(Clone, Copy, Debug, PartialEq, Eq)]
 pub struct Passed {
     pub total: u32,
     pub used: usize,
 }
 
 // Why an item is not gone over: it is refused; or, where shortest numbers are asked for, one is padded.
-#[derive(Clone, Copy)]
+#[derive(Clone, Copy, Debug, PartialEq, Eq)]
 pub enum NotPassed {
     Padded,
     Refused(Reason),
 }
 
 // The length of an item up to its tails, where all above 4,294,967,295 count as one more than that, and how many rows it uses.
-#[derive(Clone, Copy)]
+#[derive(Clone, Copy, Debug, PartialEq, Eq)]
 pub struct HeadSize {
     pub len: usize,
     pub count: usize,
 }
 
 // The place after an item that was written, and the total after it.
-#[derive(Clone, Copy)]
+#[derive(Clone, Copy, Debug, PartialEq, Eq)]
 pub struct ItemWrote {
     pub next: usize,
     pub total: u32,

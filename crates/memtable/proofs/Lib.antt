@@ -1,8 +1,6 @@
-pub mod Sizes
-pub mod Machine
 pub mod Queues
-pub mod Runs
 pub mod RunLaws
+pub mod RunPlaces
 pub mod Surveys
 pub mod Outcomes
 pub mod Rewrites

@@ -10,36 +10,37 @@ use lib.Dec.{leb, eqb}
 use lib.ListN.{length, drop, length-drop}
 use lib.Seq.{paste}
 use borrow.Author.Tests.{not-true, eqb-false, leb-true}
+use Rattle.std.specs.Prelude.{Option, Result}
+use Rattle.refusal.specs.declared.Reason.{Reason}
 use Rattle.pipe_log.specs.declared.Location.{Location}
 use Rattle.location_rules.specs.declared.Table.{Table}
-use Rattle.location_rules.specs.declared.Gate.{Gate}
 use Rattle.location_rules.specs.declared.Rewritten.{Rewritten}
 use Rattle.memtable.specs.Table.{well_formed, ready}
-use Rattle.location_rules.specs.Decisions.{early, count_after, unchanged, answered}
+use Rattle.location_rules.specs.Decisions.{early, count_after, unchanged, outcome, answered}
 use Rattle.location_rules.specs.Row.{stop_of}
-use Rattle.memtable.specs.Rewriting.{start_place, start_from, overlap_length, run_length, rewrite_of, rows_after}
+use Rattle.memtable.specs.Rewriting.{start_place, start_from, overlap_length, run_length, outcome_of, rewrite_of, rows_after}
 use Rattle.memtable.proofs.RunLaws.{run_take_le}
 
-pub data Outcome (good isReady : Bool) (t : Table) (place overlap run : ℕ) (gate : Gate) : Rewritten → Type 0 where
-  kept : (number : ℕ) → Outcome good isReady t place overlap run gate (unchanged number t.count)
+pub data Outcome (good isReady : Bool) (t : Table) (place overlap run : ℕ) (gate : Option ℕ) : Rewritten → Type 0 where
+  kept : Outcome good isReady t place overlap run gate (unchanged t.count)
   done : good ≡ true → isReady ≡ true → (overlap ≡ 0 → ⊥) → place ≤ t.count → early gate place t.count ≡ false
-      → Outcome good isReady t place overlap run gate (record { number = 0; replaced = run; count = count_after gate (place + run) t.count })
+      → Outcome good isReady t place overlap run gate (record { replaced = run; count = count_after gate (place + run) t.count })
 
-module _ (good isReady : Bool) (t : Table) (place overlap run : ℕ) (gate : Gate) where
-  abbrev Is : Rewritten → Type 0
-  Is = Outcome good isReady t place overlap run gate
+module _ (good isReady : Bool) (t : Table) (place overlap run : ℕ) (gate : Option ℕ) where
+  abbrev Is : Result Rewritten Reason → Type 0
+  Is answer = Outcome good isReady t place overlap run gate (outcome answer t.count)
 
-  choose : (b : Bool) (x y : Rewritten) → Is x → (b ≡ true → Is y) → Is (cond b y x)
+  choose : (b : Bool) (x y : Result Rewritten Reason) → Is x → (b ≡ true → Is y) → Is (cond b y x)
   choose true x y p q = q refl
   choose false x y p q = p
 
-  pub outcome_of : Is (answered good isReady t place overlap run gate)
+  pub outcome_is : Is (answered good isReady t place overlap run gate)
   unfolding answered
-  outcome_of =
-      choose good _ _ (kept 26) (λ g. choose isReady _ _ (kept 27) (λ r. choose (not (eqb overlap 0)) _ _ (kept 0) (λ o. choose (leb place t.count) _ _ (kept 24) (λ p. choose (not (early gate place t.count)) _ _ (kept 25)
+  outcome_is =
+      choose good _ _ kept (λ g. choose isReady _ _ kept (λ r. choose (not (eqb overlap 0)) _ _ kept (λ o. choose (leb place t.count) _ _ kept (λ p. choose (not (early gate place t.count)) _ _ kept
       (λ e. done g r (eqb-false overlap 0 (not-true _ o)) (leb-true place t.count p) (not-true _ e))))))
 
-module _ (rows : List Location) (t : Table) (incoming : List Location) (first : ℕ) (gate : Gate) where
+module _ (rows : List Location) (t : Table) (incoming : List Location) (first : ℕ) (gate : Option ℕ) where
   abbrev pub place : ℕ
   place = start_place t first
 
@@ -56,11 +57,11 @@ module _ (rows : List Location) (t : Table) (incoming : List Location) (first : 
   abbrev pub Outcomes : Rewritten → Type 0
   Outcomes = Outcome (well_formed rows t) (ready incoming first) t place overlap run gate
 
-  pub outcome : Outcomes (rewrite_of rows t incoming first gate)
+  pub outcomes : Outcomes (outcome_of rows t incoming first gate)
   unfolding rewrite_of
-  outcome = outcome_of (well_formed rows t) (ready incoming first) t place overlap run gate
+  outcomes = outcome_is (well_formed rows t) (ready incoming first) t place overlap run gate
 
-  pub after_is : rows_after rows t incoming first gate ≡ paste rows place source (rewrite_of rows t incoming first gate).replaced
+  pub after_is : rows_after rows t incoming first gate ≡ paste rows place source (outcome_of rows t incoming first gate).replaced
   unfolding rows_after
   after_is = refl
 

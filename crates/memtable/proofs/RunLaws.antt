@@ -7,11 +7,11 @@ use native.Mathlib.Omega.{arith}
 use mathlib.Core.Bool.{Bool, true, false, cond, and-eq-true_iff}
 use mathlib.Core.List.{List, [], ◌∷◌}
 use lib.ListN.{length, get_or, take, drop, length-take}
+use Rattle.std.specs.List.{list_all}
 use Rattle.pipe_log.specs.declared.Location.{Location}
 use Rattle.location_rules.specs.declared.Stop.{Stop}
 use Rattle.location_rules.specs.Row.{in_append, stops_at}
 use Rattle.memtable.specs.Rows.{run_of}
-use Rattle.memtable.specs.Table.{all}
 
 -- a row more
 one_more : (b : Bool) (k n : ℕ) → k ≤ n → cond b 0 (suc k) ≤ suc n
@@ -53,9 +53,9 @@ module _ (s : Stop) where
       told false e h = rw e h
 
 -- without a gate: where the rows from place j on are in the append queue, a run ends there or before
-pub run_front : (j : ℕ) (rows : List Location) → all in_append (drop j rows) ≡ true → run_of Stop.Append rows ≤ j
+pub run_front : (j : ℕ) (rows : List Location) → list_all in_append (drop j rows) ≡ true → run_of Stop.Append rows ≤ j
 run_front j [] e = omega arith
-run_front zero (r ∷ rs) e = rw ((and-eq-true_iff (in_append r) (all in_append rs)).0 e).0 (le_refl 0)
+run_front zero (r ∷ rs) e = rw ((and-eq-true_iff (in_append r) (list_all in_append rs)).0 e).0 (le_refl 0)
 run_front (suc j) (r ∷ rs) e = one_more (in_append r) (run_of Stop.Append rs) j (run_front j rs e)
 
 -- A run is the longest: no row of it stops, and where it ends before the rows do, the next row does.

@@ -1,8 +1,8 @@
--- What the walks learn from scans: whether a table is well formed, and whether incoming rows are taken.
+-- Whether a table is well formed, incoming rows are taken, and which run is fetched, by how long runs are.
 -- Assumes nothing.
 use mathlib.Core.Path.{◌≡◌, refl, sym, ap, ◌∙◌}
 use Prim.Native.Nat.{ℕ, suc, ◌+◌, ◌-◌, ◌<◌, ◌≤◌, min}
-use native.Mathlib.Nat.{zero-add}
+use native.Mathlib.Nat.{zero-add, sub-zero}
 use native.Mathlib.Omega.{arith}
 use mathlib.Core.Bool.{Bool, true, false, not, cond, ◌&&◌, and-eq-true_iff}
 use mathlib.Core.List.{List, [], ◌∷◌}
@@ -10,16 +10,16 @@ use lib.Dec.{leb, leb-suc-suc, leb-suc-zero}
 use lib.ListN.{length, take, drop, length-drop}
 use lib.Seq.{take_all, length-take-le}
 use borrow.Author.Tests.{lt-leb, leb-true, leb-false}
-use Rattle.words.proofs.Tests.{same_test}
+use Rattle.std.specs.List.{list_all}
+use Rattle.std.proofs.lemmas.Bool.Decides.{nat_tests}
 use Rattle.pipe_log.specs.declared.Location.{Location}
 use Rattle.location_rules.specs.declared.Table.{Table}
 use Rattle.location_rules.specs.declared.Stop.{Stop}
 use Rattle.location_rules.specs.Row.{in_append, in_rewrite, stops_at}
 use Rattle.memtable.specs.Rows.{run_of}
-use Rattle.memtable.specs.Table.{all, well_formed, ready}
-use Rattle.location_rules.specs.declared.Fetched.{Fetched}
+use Rattle.memtable.specs.Table.{well_formed, ready}
 use Rattle.location_rules.specs.Decisions.{fetched}
-use Rattle.memtable.specs.Fetching.{fetch_of}
+use Rattle.memtable.specs.Fetching.{fetch_in}
 use Rattle.location_rules.specs.Parts.{well_formed_by, ready_by}
 use Rattle.memtable.proofs.Queues.{not_append, not_rewrite}
 
@@ -33,12 +33,12 @@ one_more : (b : Bool) (n k : ℕ) (c : Bool) → leb n k ≡ c → leb (suc n) (
 one_more true n k c e = leb-suc-zero n
 one_more false n k c e = leb-suc-suc n k ∙ e
 
--- the scan for a row of one queue finds none exactly where all are in the other
-all_other : (s : Stop) (test : Location → Bool) → ((r : Location) → not (stops_at s r) ≡ test r) → (rows : List Location) → leb (length rows) (run_of s rows) ≡ all test rows
+-- the run up to a row of one queue takes in all rows exactly where all are in the other
+all_other : (s : Stop) (test : Location → Bool) → ((r : Location) → not (stops_at s r) ≡ test r) → (rows : List Location) → leb (length rows) (run_of s rows) ≡ list_all test rows
 all_other s test f [] = refl
-all_other s test f (r ∷ rs) = one_more (stops_at s r) (length rs) (run_of s rs) (all test rs) (all_other s test f rs) ∙ ap (λ (b : Bool). b && all test rs) (f r)
+all_other s test f (r ∷ rs) = one_more (stops_at s r) (length rs) (run_of s rs) (list_all test rs) (all_other s test f rs) ∙ ap (λ (b : Bool). b && list_all test rs) (f r)
 
-all_rewrite : (rows : List Location) → leb (length rows) (run_of Stop.Append rows) ≡ all in_rewrite rows
+all_rewrite : (rows : List Location) → leb (length rows) (run_of Stop.Append rows) ≡ list_all in_rewrite rows
 all_rewrite = all_other Stop.Append in_rewrite (λ r. not_append r.queue)
 
 -- the rows from c on, all of them
@@ -47,7 +47,7 @@ from_on c rows = take_all (length rows - c) (drop c rows) (omega (arith, length-
 
 -- the same number on both sides of a test
 added : (c n k : ℕ) → c ≤ n → leb n (c + k) ≡ leb (n - c) k
-added c n k l = same_test n (c + k) (n - c) k (λ h. omega (arith, h, l)) (λ h. omega (arith, h, l))
+added c n k l = grind (arith, nat_tests)
 
 module _ (ys : List Location) (t : Table) where
   -- a count within the rows
@@ -55,10 +55,10 @@ module _ (ys : List Location) (t : Table) where
   unfolding well_formed_by well_formed
   inside f b l e₁ e₂ = rw (front, back) refl
     where
-      front : leb t.count f ≡ all in_rewrite (take t.count ys)
+      front : leb t.count f ≡ list_all in_rewrite (take t.count ys)
       front = ap (leb t.count) e₁ ∙ ap (λ (k : ℕ). leb k (run_of Stop.Append (take t.count ys))) (sym (length-take-le t.count ys l)) ∙ all_rewrite (take t.count ys)
 
-      back : leb (length ys) b ≡ all in_append (drop t.count ys)
+      back : leb (length ys) b ≡ list_all in_append (drop t.count ys)
       back = ap (leb (length ys)) e₂ ∙ added t.count (length ys) (run_of Stop.Rewrite (drop t.count ys)) l
           ∙ ap (λ (k : ℕ). leb k (run_of Stop.Rewrite (drop t.count ys))) (sym (length-drop t.count ys)) ∙ all_other Stop.Rewrite in_append (λ r. not_rewrite r.queue) (drop t.count ys)
 
@@ -66,49 +66,39 @@ module _ (ys : List Location) (t : Table) where
   unfolding well_formed_by well_formed
   outside f b l = rw (lt-leb t.count (length ys) l) refl
 
-  pub formed_by : (c f b : ℕ) (r : Bool) → c ≡ min t.count (length ys) → f ≡ 0 + run_of Stop.Append (take (c - 0) (drop 0 ys)) → b ≡ c + run_of Stop.Rewrite (take (length ys - c) (drop c ys))
-      → r ≡ well_formed_by t (length ys) f b → r ≡ well_formed ys t
-  formed_by c f b r e₀ e₁ e₂ e = e ∙ told (leb t.count (length ys)) refl
+  pub formed_by : (n c f b : ℕ) → n ≡ length ys → c ≡ min t.count n → f ≡ 0 + run_of Stop.Append (take (c - 0) (drop 0 ys)) → b ≡ c + run_of Stop.Rewrite (take (n - c) (drop c ys)) → well_formed_by t n f b ≡ well_formed ys t
+  formed_by n c f b e e₀ e₁ e₂ = rw e (told (leb t.count (length ys)) refl)
     where
-      within : t.count ≤ length ys → well_formed_by t (length ys) f b ≡ well_formed ys t
-      within l = inside f b l (e₁ ∙ front) (e₂ ∙ back)
-        where
-          same : c ≡ t.count
-          same = omega (arith, e₀, l)
-
-          sized : c - 0 ≡ t.count
-          sized = omega (arith, same)
-
-          front : 0 + run_of Stop.Append (take (c - 0) (drop 0 ys)) ≡ run_of Stop.Append (take t.count ys)
-          front = zero-add _ ∙ ap (λ (k : ℕ). run_of Stop.Append (take k ys)) sized
-
-          back : c + run_of Stop.Rewrite (take (length ys - c) (drop c ys)) ≡ t.count + run_of Stop.Rewrite (drop t.count ys)
-          back = ap (λ (l : List Location). c + run_of Stop.Rewrite l) (from_on c ys) ∙ ap (λ (k : ℕ). k + run_of Stop.Rewrite (drop k ys)) same
+      back : b ≡ c + run_of Stop.Rewrite (drop c ys)
+      back = e₂ ∙ ap (λ (k : ℕ). c + run_of Stop.Rewrite (take (k - c) (drop c ys))) e ∙ ap (λ (v : List Location). c + run_of Stop.Rewrite v) (from_on c ys)
 
       told : (x : Bool) → leb t.count (length ys) ≡ x → well_formed_by t (length ys) f b ≡ well_formed ys t
-      told true z = within (leb-true t.count (length ys) z)
+      told true z =
+          let l = leb-true t.count (length ys) z in
+          let same : c ≡ t.count = omega (arith, e, e₀, l) in
+          inside f b l (e₁ ∙ zero-add _ ∙ ap (λ (k : ℕ). run_of Stop.Append (take k ys)) (sub-zero c ∙ same)) (back ∙ ap (λ (k : ℕ). k + run_of Stop.Rewrite (drop k ys)) same)
       told false z = outside f b (leb-false t.count (length ys) z)
 
 -- incoming rows
-pub ready_by_lem : (ys : List Location) (first e : ℕ) (r : Bool) → e ≡ 0 + run_of Stop.Append (take (length ys - 0) (drop 0 ys)) → r ≡ ready_by e (length ys) first → r ≡ ready ys first
+pub ready_by_run : (ys : List Location) (first n e : ℕ) → n ≡ length ys → e ≡ 0 + run_of Stop.Append (take (n - 0) (drop 0 ys)) → ready_by e n first ≡ ready ys first
 unfolding ready_by ready
-ready_by_lem ys first e r e₁ e₂ = e₂ ∙ (rw all_ready refl)
+ready_by_run ys first n e same h = rw (same, all) refl
   where
-    all_ready : leb (length ys) e ≡ all in_rewrite ys
-    all_ready = ap (leb (length ys)) (e₁ ∙ zero-add _ ∙ ap (λ (l : List Location). run_of Stop.Append l) (take_all (length ys - 0) ys (omega arith))) ∙ all_rewrite ys
+    all : leb (length ys) e ≡ list_all in_rewrite ys
+    all = ap (leb (length ys)) (h ∙ zero-add _ ∙ ap (λ (k : ℕ). run_of Stop.Append (take (k - 0) ys)) same ∙ ap (run_of Stop.Append) (from_on 0 ys)) ∙ all_rewrite ys
 
 -- the run from the count on
-pub fetched_by : (ys : List Location) (t : Table) (gate : ℕ) (x : Bool) (c e : ℕ) (r : Fetched) → x ≡ well_formed ys t → c ≡ min t.count (length ys)
-    → e ≡ c + run_of (Stop.Above gate) (take (length ys - c) (drop c ys)) → r ≡ fetched x t (e - c) → r ≡ fetch_of ys t gate
-unfolding fetched fetch_of
-fetched_by ys t gate x c e r e₀ e₁ e₂ e₃ = e₃ ∙ told (well_formed ys t) refl
+pub fetched_by : (isWhole : Bool) (ys : List Location) (t : Table) (gate : ℕ) (good : Bool) (n c e : ℕ) → good ≡ (isWhole && well_formed ys t) → n ≡ length ys → c ≡ min t.count n
+    → e ≡ c + run_of (Stop.Above gate) (take (n - c) (drop c ys)) → fetched good t (e - c) ≡ fetch_in isWhole ys t gate
+unfolding fetched fetch_in
+fetched_by isWhole ys t gate good n c e e₀ long e₁ e₂ = told (isWhole && well_formed ys t) refl
   where
     run : e - c ≡ run_of (Stop.Above gate) (drop c ys)
-    run = omega (arith, e₂) ∙ ap (run_of (Stop.Above gate)) (from_on c ys)
+    run = omega (arith, e₂) ∙ ap (λ (k : ℕ). run_of (Stop.Above gate) (take (k - c) (drop c ys))) long ∙ ap (run_of (Stop.Above gate)) (from_on c ys)
 
-    at_count : well_formed ys t ≡ true → c ≡ t.count
-    at_count z = omega (arith, e₁, formed_count ys t z)
+    at_count : (isWhole && well_formed ys t) ≡ true → c ≡ t.count
+    at_count z = omega (arith, e₁, long, formed_count ys t ((and-eq-true_iff isWhole (well_formed ys t)).0 z).1)
 
-    told : (b : Bool) → well_formed ys t ≡ b → fetched x t (e - c) ≡ fetched (well_formed ys t) t (run_of (Stop.Above gate) (drop t.count ys))
-    told true z = rw e₀ (ap (fetched (well_formed ys t) t) (run ∙ ap (λ (k : ℕ). run_of (Stop.Above gate) (drop k ys)) (at_count z)))
+    told : (b : Bool) → (isWhole && well_formed ys t) ≡ b → fetched good t (e - c) ≡ fetched (isWhole && well_formed ys t) t (run_of (Stop.Above gate) (drop t.count ys))
+    told true z = rw e₀ (ap (fetched (isWhole && well_formed ys t) t) (run ∙ ap (λ (k : ℕ). run_of (Stop.Above gate) (drop k ys)) (at_count z)))
     told false z = rw (e₀, z) refl

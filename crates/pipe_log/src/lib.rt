@@ -2,14 +2,14 @@
 #![tactic(auto)]
 
 // The two queues of log files.
-#[derive(Clone, Copy)]
+#[derive(Clone, Copy, Debug, PartialEq, Eq)]
 pub enum LogQueue {
     Append,
     Rewrite,
 }
 
 // The location of one entry. The Rust keeps the first four in a FileBlockHandle within an EntryIndex.
-#[derive(Clone, Copy)]
+#[derive(Clone, Copy, Debug, PartialEq, Eq)]
 pub struct Location {
     pub queue: LogQueue,
     // file number

@@ -12,7 +12,12 @@ abbrev pub gate_of : Bool → ℕ → Option ℕ
 gate_of true gate = Some gate
 gate_of false gate = None
 
--- rows replaced, rewritten count; a refusal leaves the count
+-- the number of a reason, 0 where there is none
+abbrev pub number_or_none : Option Reason → ℕ
+number_or_none (Some r) = number_of r
+number_or_none None = 0
+
+-- rows replaced, rewritten count; a refusal leaves both
 abbrev pub rewrite_reply : ℕ → Result Rewritten Reason → Reply
 rewrite_reply count (Ok r) = reply 0 (r.replaced ∷ r.count ∷ [])
 rewrite_reply count (Err r) = reply (number_of r) (0 ∷ count ∷ [])

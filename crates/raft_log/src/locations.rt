@@ -3,9 +3,10 @@ ghost use Rattle.std.specs.Prelude.{◌≡◌};
 ghost use Rattle.location_rows.specs.Answers.{table_from, RowsRewritten, fetch_words};
 ghost use Rattle.item_row.specs.Reply.{reply};
 ghost use Rattle.raft_log.specs.Answers.{Replied};
-ghost use Rattle.raft_log.specs.Locations.{gate_of, rewrite_reply, fetch_reply};
+ghost use Rattle.raft_log.specs.Locations.{gate_of, number_or_none, rewrite_reply, fetch_reply};
 
-use crate::put;
+use location_rules::Table;
+use refusal::Reason;
 
 // Replaces rows of a location table by incoming ones.
 #[unsafe(no_mangle)]
@@ -21,17 +22,15 @@ pub extern "C" fn raft_log_rewrite(
 ) -> u32
     ensures { Replied (λ a. RowsRewritten table.old (table_from first_index rewritten) incoming.now incoming_first (gate_of with_gate gate) a table.new) (rewrite_reply rewritten) (reply result answer.new) }
 {
-    let g = if with_gate { Some(gate) } else { None };
-    match location_rows::rewrite(table, first_index, rewritten, incoming, incoming_first, g) {
-        Ok(r) => {
-            *answer = [r.replaced as u64, r.count as u64];
-            0
-        }
-        Err(reason) => {
-            *answer = [0, rewritten];
-            reason.number()
-        }
-    }
+    let t = Table {
+        first: first_index,
+        count: rewritten as usize,
+    };
+    let gate = if with_gate { Some(gate) } else { None };
+    let r = location_rows::rewrite(table, t, incoming, incoming_first, gate);
+    let done = location_rules::outcome(r, t.count);
+    *answer = [done.replaced as u64, done.count as u64];
+    number(r.err())
 }
 
 // The longest run of rows from the rewritten count on whose file number is at most the gate.
@@ -45,8 +44,22 @@ pub extern "C" fn raft_log_fetch(
 ) -> u32
     ensures { reply result answer.new ≡ fetch_reply (fetch_words table.now (table_from first_index rewritten) gate) }
 {
-    match location_rows::fetch(table, first_index, rewritten, gate) {
-        Ok(run) => put(Ok([run.place as u64, run.len as u64]), answer),
-        Err(reason) => put(Err(reason), answer),
+    let t = Table {
+        first: first_index,
+        count: rewritten as usize,
+    };
+    let r = location_rows::fetch(table, t, gate);
+    let run = location_rules::found(r);
+    *answer = [run.place as u64, run.len as u64];
+    number(r.err())
+}
+
+// The number of a reason, or 0.
+fn number(refused: Option<Reason>) -> u32
+    ensures { result ≡ number_or_none refused }
+{
+    match refused {
+        Some(reason) => reason.number(),
+        None => 0,
     }
 }

@@ -1,3 +1,2 @@
 pub mod RowItems
-pub mod RowsMeasuring
 pub mod Determined

@@ -10,7 +10,7 @@ ghost use Rattle.words.specs.Word.{big_endian, big_endian_bytes, little_endian_b
 ghost use Rattle.words.specs.Write.{wrote_at, placed};
 
 // A piece of the bytes, and the place after it.
-#[derive(Clone, Copy)]
+#[derive(Clone, Copy, Debug, PartialEq, Eq)]
 pub struct Piece<T> {
     pub value: T,
     pub next: usize,

@@ -1,0 +1,11 @@
+-- A row that stops the run ends it; one that does not is part of it.
+-- Assumes nothing.
+use Rattle.std.proofs.Common.{arith, add-one}
+use Rattle.location_rows.proofs.Scans.{run_stops, run_passes}
+use Rattle.location_rows.proofs.WordsLayout.scan.Goals as goal
+
+pub returns-then-stops : goal.returns-then-stops
+returns-then-stops c = omega (arith, c.loop-i.invariant, run_stops _ _ _ _ c.loop-i-test.true c.requires.1 c.stops.ensures c.if-stops.true)
+
+pub loop-i-preserved : goal.loop-i-preserved
+loop-i-preserved c = rw add-one (omega (arith, c.loop-i.invariant, run_passes _ _ _ _ c.loop-i-test.true c.requires.1 c.stops.ensures c.if-stops.false))
