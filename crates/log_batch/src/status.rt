@@ -41,13 +41,15 @@ fn mark_of(group: u64, key: Span, value: Span, store: &[u8]) -> Result<Option<Ma
     if !is_mark(store, key) || value.len != 1 {
         return Ok(None);
     }
-    let status = AtomicGroupStatus::of_byte(store[value.at])?;
+    let status = AtomicGroupStatus::try_from(store[value.at])?;
     Ok(Some(Mark { id: group, status }))
 }
 
-impl AtomicGroupStatus {
-    // 0 begin, 1 middle, 2 end.
-    fn of_byte(b: u8) -> Result<AtomicGroupStatus, Reason>
+// 0 begin, 1 middle, 2 end.
+impl TryFrom<u8> for AtomicGroupStatus {
+    type Error = Reason;
+
+    fn try_from(b: u8) -> Result<AtomicGroupStatus, Reason>
         ensures { result ≡ status_byte b }
     {
         match b {

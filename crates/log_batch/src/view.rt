@@ -52,10 +52,7 @@ pub fn check_entry(block: &[u8], long: u64, offset: u64, len: u64) -> Result<(),
     }
     check_block(block)?;
     let content = sealed_len(block.len()) as u64;
-    if content < offset {
-        return Err(Reason::SpanOutside);
-    }
-    if content - offset < len {
+    if content < offset || content - offset < len {
         return Err(Reason::SpanOutside);
     }
     Ok(())
