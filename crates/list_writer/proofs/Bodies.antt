@@ -2,10 +2,10 @@
 -- Assumes nothing.
 use Prim.Native.Nat.{ℕ, ◌+◌, ◌-◌, ◌≤◌, ◌<◌}
 use mathlib.Core.Path.{◌≡◌, refl, sym, ap, ◌∙◌}
-use mathlib.Core.Bool.{Bool, false}
+use mathlib.Core.Bool.{Bool}
 use mathlib.Core.List.{List}
 use native.Mathlib.Omega.{arith}
-use lib.Dec.{leb, eqb}
+use lib.Dec.{leb}
 use lib.Bits.{bit_xor}
 use lib.ListN.{length, take, drop, length-append}
 use lib.Seq.{sets-eq, take_at}
@@ -19,7 +19,7 @@ use Rattle.words.specs.Write.{next_at, placed}
 use Rattle.words.proofs.Words.{length_little}
 use Rattle.crc.specs.Crc.{crc_of}
 use Rattle.log_item.specs.declared.LogItem.{LogItem}
-use Rattle.log_item.specs.Private.{Room, Stored}
+use Rattle.log_item.specs.Private.{Stored}
 use Rattle.log_item.proofs.Stores.{stored_at, stored_stands, stored_then, stored_length}
 use Rattle.list_writer.specs.declared.Measured.{Measured}
 use Rattle.list_writer.specs.Bytes.{items_bytes, list_bytes, footed, body_bytes}
@@ -76,9 +76,9 @@ module _ {s : List ℕ} {checked : Bool} {xs : List LogItem} {ns : List ℕ} {lo
     (fit : at + long ≤ length out) where
   pub writing_begins : {n next : ℕ} {mid : List ℕ} → length xs ≡ n → (next ≡ next_at out at (shortest n)) × (mid ≡ placed out at (shortest n))
       → Writing s xs ns out at mid next 0 0 0 0
-  writing_begins {n} size wrote =
+  writing_begins {n} {next} {mid} size wrote =
       let same : length (shortest n) ≡ length (shortest (length xs)) = ap (λ (k : ℕ). length (shortest k)) (sym size) in
-      let p : Stored out at (shortest (length xs)) _ _ = rw size (stored_at (record { fits = omega (arith, fit, a.whole, same) }) wrote) in
+      let p : Stored out at (shortest (length xs)) next mid = rw size (stored_at (record { fits = omega (arith, fit, a.whole, same) }) wrote) in
       writing_start s checked xs ns a.total a.told p (omega (arith, fit, a.whole, p.after, stored_length p))
 
   module _ {later : List ℕ} {next i j tails t : ℕ} (w : Writing s xs ns out at later next i j tails t) (z : tails ≤ 0) (h : length xs ≤ i) where

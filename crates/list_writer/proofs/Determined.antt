@@ -3,7 +3,16 @@
 use Prim.Native.Nat.{ℕ}
 use mathlib.Core.Path.{◌≡◌, sym, ◌∙◌}
 use mathlib.Core.List.{List}
+use mir.Syntax.{Dict}
+use denote.RattleType.{RattleType}
+use denote.Param.Laws.{Laws}
 use Rattle.one_answer.specs.OneAnswer.{OneAnswer}
+use Rattle.item_row.specs.declared.ItemRow as item_row
+use Rattle.item_row.specs.declared.EntryRow as entry_row
+use Rattle.list_writer.proofs.measure_list.Kinds as measure_list_kinds
+use Rattle.list_writer.proofs.measure_list.Reads as measure_list_reads
+use Rattle.list_writer.proofs.encode_list.Kinds as encode_list_kinds
+use Rattle.list_writer.proofs.encode_list.Reads as encode_list_reads
 use Rattle.list_writer.proofs.measure.Kinds as measure_kinds
 use Rattle.list_writer.proofs.measure.Reads as measure_reads
 use Rattle.list_writer.proofs.finish.Kinds as finish_kinds
@@ -43,3 +52,12 @@ write_head κs a x y s t p q = (p.0 ∙ sym q.0, p.1 ∙ sym q.1)
 
 pub write_footer : OneAnswer 1 write_footer_kinds.ps write_footer_kinds.r write_footer_reads.Post (λ κs x y s t. (x ≡ y) × (s.1.0.now ≡ t.1.0.now))
 write_footer κs a x y s t p q = (p.0 ∙ sym q.0, p.1 ∙ sym q.1)
+
+-- rows of any kind
+module _ (I E : RattleType) (i : Laws I) (e : Laws E) (item : item_row.Ghosts I.Denot) (d : Dict) (entry : entry_row.Ghosts E.Denot) (f : Dict) where
+  pub measure_list : OneAnswer 5 (measure_list_kinds.ps I E i e) (measure_list_kinds.r I E i e) (measure_list_reads.Post I E i e item d entry f) (λ κs x y s t. x ≡ y)
+  measure_list κs a x y s t p q = p ∙ sym q
+
+  pub encode_list : OneAnswer 6 (encode_list_kinds.ps I E i e) (encode_list_kinds.r I E i e) (encode_list_reads.Post I E i e item d entry f)
+      (λ κs x y s t. (x ≡ y) × (s.1.1.1.1.1.0.now ≡ t.1.1.1.1.1.0.now))
+  encode_list κs a x y s t p q = written_once p q

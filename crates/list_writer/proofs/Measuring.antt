@@ -2,14 +2,14 @@
 -- Assumes nothing.
 use Prim.Native.Nat.{ℕ, ◌+◌, ◌-◌, ◌*◌, ◌≤◌, ◌<◌}
 use mathlib.Core.Path.{◌≡◌, refl, sym, ap, ◌∙◌}
-use mathlib.Core.Bool.{Bool, true, false, cond}
+use mathlib.Core.Bool.{Bool, true, false}
 use mathlib.Core.List.{List, ◌++◌}
 use native.Mathlib.Omega.{arith}
 use lib.Dec.{ltb, leb}
 use lib.ListN.{length, get_or, length-append}
 use borrow.Author.Tests.{lt-ltb, le-ltb, ltb-true, ltb-false, lt-leb, le-leb, leb-true}
 use Rattle.std.specs.Prelude.{Result, Ok, Err}
-use Rattle.refusal.specs.First.{fine, ◌>>=◌, Checked}
+use Rattle.refusal.specs.First.{Checked}
 use Rattle.refusal.specs.declared.Reason.{Reason}
 use Rattle.refusal.specs.declared.Refusal.{Refusal}
 use Rattle.codec.specs.Shortest.{shortest}
@@ -24,7 +24,7 @@ use Rattle.log_item.proofs.Refusals.{content_allowed}
 use Rattle.log_item.specs.Blank.{blank_item}
 use Rattle.list_writer.specs.declared.Measured.{Measured}
 use Rattle.list_writer.specs.Bytes.{items_bytes, list_bytes}
-use Rattle.list_writer.specs.Refusing.{refused, at_item, items_verdict, list_verdict}
+use Rattle.list_writer.specs.Refusing.{refused, items_verdict, list_verdict}
 use Rattle.list_writer.specs.Answers.{measured, measured_of, measure_of}
 use Rattle.list_writer.proofs.Heads.{unless_item, head_fine, unless_refused, else_fine}
 use Rattle.list_writer.proofs.Rest.{rest_bytes, bytes_row, bytes_item, bytes_end, bytes_start, rest_verdict, told_row, told_item, told_end, told_start}

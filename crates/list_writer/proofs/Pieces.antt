@@ -1,17 +1,14 @@
 -- A piece of a body for which there is room is stored.
 -- Assumes nothing.
-use Prim.Native.Nat.{ℕ, zero, suc, ◌+◌, ◌-◌, ◌≤◌, ◌<◌}
-use mathlib.Core.Path.{◌≡◌, refl, sym, ◌∙◌}
+use Prim.Native.Nat.{ℕ, ◌+◌, ◌-◌, ◌≤◌}
+use mathlib.Core.Path.{◌≡◌, ◌∙◌}
 use mathlib.Core.Bool.{true}
 use mathlib.Core.List.{List}
 use native.Mathlib.Omega.{arith}
 use lib.Bits.{bit_xor}
 use lib.ListN.{length, take, drop}
-use borrow.Author.Tests.{le-leb, lt-leb}
-use Rattle.std.specs.Prelude.{Option, Some, None, Result, Ok, Err}
-use Rattle.refusal.specs.First.{Checked, fine, if_fine}
-use Rattle.refusal.specs.declared.Reason.{Reason}
-use Rattle.words.specs.Word.{little_endian_bytes}
+use borrow.Author.Tests.{le-leb}
+use Rattle.refusal.specs.First.{fine}
 use Rattle.words.specs.Write.{next_at, placed}
 use Rattle.words.proofs.Words.{length_little}
 use Rattle.crc.specs.Crc.{crc_of}

@@ -1,6 +1,6 @@
 -- What is left at the head of the writer's loops: the tails of the item begun, then the items after it.
 -- Assumes nothing.
-use Prim.Native.Nat.{ℕ, zero, suc, ◌+◌, ◌-◌, ◌≤◌, ◌<◌}
+use Prim.Native.Nat.{ℕ, suc, ◌+◌, ◌-◌, ◌≤◌, ◌<◌}
 use mathlib.Core.Path.{◌≡◌, refl, sym, ap, ◌∙◌}
 use mathlib.Core.Bool.{Bool, true, false, not, cond}
 use mathlib.Core.List.{List, [], ◌∷◌, ◌++◌, append_assoc}
@@ -9,10 +9,9 @@ use native.Mathlib.Numerals.{add-one}
 use lib.Dec.{ltb}
 use lib.ListN.{length, take, drop, get_or, length-drop, drop_of_length-le}
 use lib.Seq.{drop-cons, drop-drop}
-use borrow.Author.Tests.{ltb-true, lt-ltb, le-ltb, ne_eqb}
+use borrow.Author.Tests.{ltb-true, lt-ltb, le-ltb}
 use Rattle.std.specs.Prelude.{Result, Ok, Err}
-use Rattle.refusal.specs.First.{◌else◌, ◌>>◌, ◌>>=◌, Checked, fine}
-use Rattle.refusal.specs.declared.Reason.{Reason}
+use Rattle.refusal.specs.First.{fine}
 use Rattle.refusal.specs.declared.Refusal.{Refusal}
 use Rattle.codec.specs.Shortest.{shortest}
 use Rattle.log_item.specs.Entries.{entries_of}
@@ -23,7 +22,7 @@ use Rattle.log_item.specs.Written.{sum_of, item_bytes}
 use Rattle.log_item.proofs.Tails.{sum_rises}
 use Rattle.log_item.specs.Blank.{blank_item}
 use Rattle.list_writer.specs.Bytes.{items_bytes}
-use Rattle.list_writer.specs.Refusing.{refused, at_item, items_verdict}
+use Rattle.list_writer.specs.Refusing.{refused, items_verdict}
 use Rattle.list_writer.proofs.Heads.{unless_item}
 use Rattle.refusal.specs.declared.Reason.TheVariants.{TailTooLarge}
 

@@ -6,20 +6,19 @@ use mathlib.Core.Bool.{Bool}
 use mathlib.Core.List.{List, [], ◌∷◌}
 use native.Mathlib.Omega.{arith}
 use lib.ListN.{length, take}
-use Rattle.std.specs.Prelude.{Result, Ok, Err, map}
+use Rattle.std.specs.Prelude.{Result, Ok, map}
 use Rattle.std.proofs.lemmas.List.{take_min}
 use Rattle.refusal.specs.First.{fine}
 use Rattle.refusal.specs.declared.Reason.TheVariants.{ItemsTooMany}
 use Rattle.refusal.specs.declared.Refusal.{Refusal}
 use Rattle.log_item.specs.declared.LogItem.{LogItem}
 use Rattle.log_item.specs.declared.EntryIndex.{EntryIndex}
-use Rattle.list_writer.specs.declared.Measured.{Measured}
 use Rattle.list_writer.specs.Bytes.{items_of, lengths_of, body_bytes}
 use Rattle.list_writer.specs.Refusing.{refused}
 use Rattle.list_writer.specs.Answers.{measure_of, MeasuredWritten}
 use Rattle.list_writer.specs.Rows.{items_before, row_behind, rows_measure, rows_bytes}
 use Rattle.list_writer.proofs.Measuring.{measured_9}
-use Rattle.list_writer.proofs.Rows.{Row, all_measured}
+use Rattle.list_writer.proofs.Rows.{all_measured}
 use Rattle.list_writer.proofs.Bodies.{refused_laid}
 
 pub items_length : (items : List LogItem) (n : ℕ) → length (items_of items n) ≡ n

@@ -51,6 +51,7 @@ pub extern "C" fn speed_write(
 }
 
 // The table of a body, written as a body again: its length.
+#[tactic(auto, unfolding(list_writer::specs::Answers::laid))]
 fn write_again(body: &[u8], signature: u32, out: &mut [u8]) -> Result<usize, Refusal>
     ensures { TableAgain (body_table body.now (read_body body.now signature)) body.now signature out.old result out.new }
 {

@@ -1,9 +1,9 @@
 -- `list_writer::encode_list` meets its contract. The loops' invariant, `Writing`: what is left, stored from here on, completes count and items.
 -- Assumes nothing.
-use mathlib.Core.Path.{◌≡◌, refl, sym, ap, ◌∙◌}
-use Prim.Native.Nat.{ℕ, ◌+◌, ◌-◌, ◌≤◌}
+use mathlib.Core.Path.{◌≡◌, sym, ap, ◌∙◌}
+use Prim.Native.Nat.{◌+◌, ◌-◌, ◌+◌}
 use native.Mathlib.Omega.{arith}
-use lib.ListN.{length, length-map}
+use lib.ListN.{length-map}
 use Rattle.std.proofs.Common.{rules, Err}
 use Rattle.log_item.specs.declared.EntryIndexes.{EntryIndexes}
 use Rattle.list_writer.proofs.Rows.{at_map, entry_at, item_there, each_item, rows_accepted}
@@ -84,7 +84,7 @@ loop-entry-preserved g c =
     let v = c.loop-entry.invariant in
     let k = length-map c.args.entries.now g.E.EntryRow.length in
     let d = entry_at g.E.EntryRow.length c.args.entries.now c.loop-row.used _ c.loop-entry.entry-index _ c.entry-item.is (omega arith) (omega (arith, v.bytes.room)) in
-    let w =
+    let w : Writing _ _ _ _ _ _ _ (c.loop-row.row-index + 1) (c.loop-row.used + (c.loop-entry.entry-index + 1)) (c.entries-count.result.count - (c.loop-entry.entry-index + 1)) _ =
     writing_entry v.bytes _ (c.loop-entry.total + c.entry_len.result) _ _ (omega arith) d (omega (arith, c.entry_len.ensures)) (rw c.from.ensures at c.put_var_u64-next-in-loop-entry.ensures) (omega arith) (omega arith) in
     record { begun = omega arith; bytes = w }
 

@@ -1,9 +1,7 @@
 -- `list_writer::encode_list` meets its contract. The loops' invariant, `Writing`: what is left, stored from here on, completes count and items.
 -- Assumes nothing.
 use Prim.Native.Nat.{◌≤◌, ◌-◌, ◌+◌}
-use mathlib.Core.Path.{◌≡◌}
 use Rattle.std.specs.Prelude.{map}
-use lib.ListN.{length}
 use Rattle.list_writer.specs.Rows.{items_before}
 use Rattle.list_writer.proofs.Writing.{Writing}
 use Rattle.list_writer.proofs.encode_list.Given as goal

@@ -2,7 +2,6 @@
 -- left give those of the whole list.
 -- Assumes nothing.
 use Prim.Native.Nat.{◌≤◌, ◌-◌, ◌+◌}
-use mathlib.Core.Path.{◌≡◌}
 use Rattle.std.specs.Prelude.{map}
 use lib.ListN.{length}
 use Rattle.codec.specs.Shortest.{shortest}
