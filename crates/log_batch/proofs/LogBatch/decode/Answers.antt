@@ -11,7 +11,7 @@ pub overflow_sub-block : goal.overflow_sub-block
 overflow_sub-block c = omega (arith, (front_known c.args.buf.now (sym c.in-Ok.ensures)).start)
 
 pub slice_bounds-decode-count : goal.slice_bounds-decode-count
-slice_bounds-decode-count c = omega (arith, (front_known c.args.buf.now (sym c.in-Ok.ensures)).inside)
+slice_bounds-decode-count c = let f = front_known c.args.buf.now (sym c.in-Ok.ensures) in omega (arith, f.start, f.inside, f.there)
 
 pub slice_bounds-decode-start : goal.slice_bounds-decode-start
 slice_bounds-decode-start c = let f = front_known c.args.buf.now (sym c.in-Ok.ensures) in omega (arith, f.start, f.inside, f.there)
