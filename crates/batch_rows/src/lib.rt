@@ -42,13 +42,7 @@ pub fn read_rows(
         len: offset - LogBatch::HEADER_LEN,
     };
     let wanted = Some(log_batch::sealed_len(block.len));
-    let check = rows_reader::read_body(
-        &buf[offset..len],
-        signature,
-        wanted,
-        items,
-        entries,
-    )?;
+    let check = rows_reader::read_body(&buf[offset..len], signature, wanted, items, entries)?;
     Ok(BatchCheck { check, body, block })
 }
 
