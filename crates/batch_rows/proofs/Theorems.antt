@@ -11,7 +11,7 @@ use Rattle.words.specs.Byte.{Bytes}
 use Rattle.log_item.specs.Each.{none, one}
 use Rattle.log_item.specs.declared.LogItem.{LogItem}
 use Rattle.log_item.specs.Relocated.{numbers_of, Small}
-use Rattle.std.specs.Prelude.{Option, Some, Result, Ok, Err}
+use Rattle.std.specs.Prelude.{Some, Result, Ok, Err}
 use Rattle.refusal.specs.declared.Reason.{Reason}
 use Rattle.item_row.specs.Row.{command_row, key_row, row_item, item_of_row, item_row_count}
 use Rattle.list_writer.specs.Answers.{MeasuredWritten}

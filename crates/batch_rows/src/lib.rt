@@ -31,24 +31,11 @@ pub fn read_rows(
     ensures { BatchReadInto buf.now signature items.old entries.old result items.new entries.new }
 {
     let batch = LogBatch::check_front(buf)?;
-    let offset = batch.offset;
-    let len = batch.len;
-    let body = Span {
-        at: offset,
-        len: len - offset,
-    };
-    let block = Span {
-        at: LogBatch::HEADER_LEN,
-        len: offset - LogBatch::HEADER_LEN,
-    };
+    let body = batch.body();
+    let block = batch.block();
     let wanted = Some(log_batch::sealed_len(block.len));
-    let check = rows_reader::read_body(
-        &buf[offset..len],
-        signature,
-        wanted,
-        items,
-        entries,
-    )?;
+    let bytes = &buf[batch.offset..batch.len];
+    let check = rows_reader::read_body(bytes, signature, wanted, items, entries)?;
     Ok(BatchCheck { check, body, block })
 }
 

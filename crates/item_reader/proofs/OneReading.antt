@@ -1,6 +1,6 @@
 -- Demand 3 of what a caller of the stepping reader gets: each reader that meets the contract of `open`, for any bytes under any signature.
 -- Assumes nothing.
-use Rattle.std.proofs.Common.{◌≡◌, ℕ, ◌↔◌, List, Option, None, sym, refl, ap, ◌∙◌, Bor}
+use Rattle.std.proofs.Common.{◌≡◌, ℕ, ◌↔◌, List, None, sym, refl, ap, ◌∙◌, Bor}
 use Rattle.log_item.specs.declared.LogItem.{LogItem}
 use Rattle.log_item.specs.declared.EntryIndex.{EntryIndex}
 use Rattle.log_batch.specs.Reading.{Answer, accepted, rejected}

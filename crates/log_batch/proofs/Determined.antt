@@ -40,6 +40,10 @@ use Rattle.log_batch.proofs.LogBatch.decode_header.Kinds as decode_header_kinds
 use Rattle.log_batch.proofs.LogBatch.decode_header.Reads as decode_header_reads
 use Rattle.log_batch.proofs.LogBatch.decode.Kinds as decode_log_batch_kinds
 use Rattle.log_batch.proofs.LogBatch.decode.Reads as decode_log_batch_reads
+use Rattle.log_batch.proofs.LogBatch.body.Kinds as body_kinds
+use Rattle.log_batch.proofs.LogBatch.body.Reads as body_reads
+use Rattle.log_batch.proofs.LogBatch.block.Kinds as block_kinds
+use Rattle.log_batch.proofs.LogBatch.block.Reads as block_reads
 use Rattle.log_batch.proofs.LogBatch.check_front.Kinds as check_front_kinds
 use Rattle.log_batch.proofs.LogBatch.check_front.Reads as check_front_reads
 use Rattle.log_batch.proofs.LogBatch.encode.Kinds as encode_log_batch_kinds
@@ -98,6 +102,12 @@ decode_header κs a x y s t p q = header_same x y (p ∙ sym q)
 
 pub decode_log_batch : OneAnswer 1 decode_log_batch_kinds.ps decode_log_batch_kinds.r decode_log_batch_reads.Post (λ κs x y s t. x ≡ y)
 decode_log_batch κs a x y s t p q = p ∙ sym q
+
+pub body : OneAnswer 0 body_kinds.ps body_kinds.r body_reads.Post (λ κs x y s t. x ≡ y)
+body κs a x y s t p q = p ∙ sym q
+
+pub block : OneAnswer 0 block_kinds.ps block_kinds.r block_reads.Post (λ κs x y s t. x ≡ y)
+block κs a x y s t p q = p ∙ sym q
 
 pub check_front : OneAnswer 1 check_front_kinds.ps check_front_kinds.r check_front_reads.Post (λ κs x y s t. x ≡ y)
 check_front κs a x y s t p q = header_same x y (p ∙ sym q)

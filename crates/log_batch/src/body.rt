@@ -7,7 +7,7 @@ ghost use Rattle.log_batch.specs.Body.{read_body};
 ghost use Rattle.log_batch.specs.Answers.{check_of, plain_body};
 
 use crate::seal::check_seal;
-use crate::{BodyCheck, LogBatch, outside};
+use crate::{BodyCheck, LogBatch};
 use log_item::{Form, LogItem, NotPassed};
 use refusal::{Reason, Refusal};
 use words::Piece;
@@ -24,7 +24,7 @@ pub fn check_items(buf: &[u8]) -> Result<BodyCheck, Refusal>
 pub fn check(body: &[u8], signature: u32) -> Result<BodyCheck, Refusal>
     ensures { result ≡ check_of (read_body body.now signature) }
 {
-    check_seal(body, signature).map_err(outside)?;
+    check_seal(body, signature)?;
     let n = body.len() - LogBatch::CHECKSUM_LEN;
     check_form(&body[..n], Form::Any)
 }
@@ -44,7 +44,7 @@ pub fn plain(body: &[u8], signature: u32) -> Result<bool, Refusal>
 fn check_form(buf: &[u8], form: Form) -> Result<BodyCheck, Refusal>
     ensures { result ≡ check_of (read_items form buf.now) }
 {
-    let count = read_item_count(buf, form).map_err(outside)?;
+    let count = read_item_count(buf, form)?;
     check_from(buf, count.next, count.value as usize, form)
 }
 

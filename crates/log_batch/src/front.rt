@@ -4,7 +4,7 @@ ghost use Rattle.log_batch.specs.Front.{measured_length, body_offset, front_byte
 ghost use Rattle.words.specs.Write.{placed};
 ghost use Rattle.log_item.specs.Private.{Room};
 
-use crate::{LogBatch, outside};
+use crate::LogBatch;
 use list_writer::Measured;
 use refusal::{Reason, Refusal};
 
@@ -22,7 +22,7 @@ pub fn begin(
 {
     if let Ok(body) = m {
         if list_writer::BODY_LEN_MAX < body.length {
-            return Err(outside(Reason::OutputTooLong));
+            return Err(Refusal::from(Reason::OutputTooLong));
         }
     }
     let len = plan(m, items, content, out.len())?;
@@ -48,14 +48,14 @@ fn plan(
     }
     let body = m?;
     if 2147483647 < body.total {
-        return Err(outside(Reason::OutputTooLong));
+        return Err(Refusal::from(Reason::OutputTooLong));
     }
     if body.total as usize != content.len() {
-        return Err(outside(Reason::BlockDiffers));
+        return Err(Refusal::from(Reason::BlockDiffers));
     }
     let size = body_offset(content) + body.length;
     if room < size {
-        return Err(outside(Reason::OutputShort));
+        return Err(Refusal::from(Reason::OutputShort));
     }
     Ok(size)
 }

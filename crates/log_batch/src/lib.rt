@@ -9,7 +9,7 @@ mod status;
 mod table;
 mod view;
 
-ghost use Rattle.std.specs.Prelude.{◌≡◌, true, false};
+ghost use Rattle.std.specs.Prelude.{◌≡◌, ◌-◌, true, false};
 ghost use Rattle.log_batch.specs.Header.{frame, header, header_got};
 ghost use Rattle.log_batch.specs.Batch.{front_batch, read_batch};
 ghost use Rattle.log_batch.specs.Written.{TableWritten};
@@ -118,30 +118,42 @@ impl LogBatch {
         Ok(batch)
     }
 
+    // Where its body stands, from the offset to the length.
+    pub fn body(self) -> Span
+        ensures { result ≡ record { at = self.offset; len = self.len - self.offset } }
+    {
+        Span {
+            at: self.offset,
+            len: self.len.saturating_sub(self.offset),
+        }
+    }
+
+    // Where its block stands, from the end of the header to the offset.
+    pub fn block(self) -> Span
+        ensures { result ≡ record { at = 16; len = self.offset - 16 } }
+    {
+        Span {
+            at: LogBatch::HEADER_LEN,
+            len: self.offset.saturating_sub(LogBatch::HEADER_LEN),
+        }
+    }
+
     // A whole batch under a signature. Bytes past its length are not looked at; spans are in the body.
     pub fn decode(buf: &[u8], signature: u32) -> LogItemBatch
         ensures { result ≡ read_batch buf.now signature }
     {
         let batch = match LogBatch::check_front(buf) {
             Ok(batch) => batch,
-            Err(reason) => return LogItemBatch::empty(Some(outside(reason))),
+            Err(reason) => return LogItemBatch::empty(Some(Refusal::from(reason))),
         };
-        let offset = batch.offset;
-        let len = batch.len;
-        let body = Span {
-            at: offset,
-            len: len - offset,
-        };
-        let block = Span {
-            at: LogBatch::HEADER_LEN,
-            len: offset - LogBatch::HEADER_LEN,
-        };
-        let mut t = LogItemBatch::decode(&buf[offset..len], signature);
+        let body = batch.body();
+        let block = batch.block();
+        let mut t = LogItemBatch::decode(&buf[batch.offset..batch.len], signature);
         if t.refusal.is_some() {
             return t;
         }
         if t.total as usize != sealed_len(block.len) {
-            return LogItemBatch::empty(Some(outside(Reason::BlockDiffers)));
+            return LogItemBatch::empty(Some(Refusal::from(Reason::BlockDiffers)));
         }
         t.body = body;
         t.block = block;
@@ -222,11 +234,4 @@ fn read_frame(first: u64, second: u64) -> Result<LogBatch, Reason>
         return Err(Reason::OffsetBelowHeader);
     }
     Ok(LogBatch::new(offset, len, compression))
-}
-
-// A refusal that is met outside items.
-pub(crate) fn outside(reason: Reason) -> Refusal
-    ensures { result ≡ record { reason = reason; item = 0 } }
-{
-    Refusal { reason, item: 0 }
 }

@@ -8,7 +8,7 @@ ghost use Rattle.log_batch.specs.Writing.{BodyWritten};
 
 use crate::body::read_item_count;
 use crate::seal::check_seal;
-use crate::{LogBatch, LogItemBatch, outside};
+use crate::{LogBatch, LogItemBatch};
 use log_item::{EntryIndex, EntryIndexes, Form, LogItem, LogItemContent, Span};
 use refusal::Refusal;
 
@@ -64,7 +64,7 @@ impl LogItemBatch {
                 let n = body.len() - LogBatch::CHECKSUM_LEN;
                 LogItemBatch::fill(&body[..n], body.len())
             }
-            Err(reason) => LogItemBatch::empty(Some(outside(reason))),
+            Err(reason) => LogItemBatch::empty(Some(Refusal::from(reason))),
         }
     }
 
@@ -75,7 +75,7 @@ impl LogItemBatch {
     {
         match read_item_count(buf, Form::Any) {
             Ok(count) => LogItemBatch::fill_from(buf, len, count.next, count.value as usize),
-            Err(reason) => LogItemBatch::empty(Some(outside(reason))),
+            Err(reason) => LogItemBatch::empty(Some(Refusal::from(reason))),
         }
     }
 

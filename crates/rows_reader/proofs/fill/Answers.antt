@@ -1,7 +1,6 @@
 -- `rows_reader::fill` meets its contract.
 -- Assumes nothing.
-use Rattle.std.proofs.Common.{◌≡◌, suc, ◌+◌, ◌-◌, sym, refl, ap, ◌∙◌, arith}
-use Rattle.words.specs.Write.{placed}
+use Rattle.std.proofs.Common.{◌≡◌, suc, ◌+◌, ◌-◌, sym, refl, arith}
 use Rattle.log_item.specs.declared.Form.TheVariants.{Any}
 use Rattle.log_item.proofs.Known.{tail_known}
 use Rattle.item_row.specs.Row.{entry_words}

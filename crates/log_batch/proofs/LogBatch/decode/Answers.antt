@@ -4,12 +4,6 @@ use Rattle.std.proofs.Common.{sym, arith}
 use Rattle.log_batch.proofs.Frames.{front_known, table_refused, table_stays, table_differs, table_placed}
 use Rattle.log_batch.proofs.LogBatch.decode.Goals as goal
 
-pub overflow_sub-body : goal.overflow_sub-body
-overflow_sub-body c = omega (arith, (front_known c.args.buf.now (sym c.in-Ok.ensures)).inside)
-
-pub overflow_sub-block : goal.overflow_sub-block
-overflow_sub-block c = omega (arith, (front_known c.args.buf.now (sym c.in-Ok.ensures)).start)
-
 pub slice_bounds-decode-count : goal.slice_bounds-decode-count
 slice_bounds-decode-count c = let f = front_known c.args.buf.now (sym c.in-Ok.ensures) in omega (arith, f.start, f.inside, f.there)
 
@@ -20,15 +14,17 @@ pub slice_bounds-decode-end : goal.slice_bounds-decode-end
 slice_bounds-decode-end c = let f = front_known c.args.buf.now (sym c.in-Ok.ensures) in omega (arith, f.start, f.inside, f.there)
 
 pub returns-in-Err : goal.returns-in-Err
-returns-in-Err c = table_refused _ _ (sym c.in-Err.ensures) c.empty.ensures c.outside.ensures
+returns-in-Err c = table_refused _ _ (sym c.in-Err.ensures) c.empty.ensures c.from.ensures
 
 pub returns-then-is_some : goal.returns-then-is_some
 returns-then-is_some c = table_stays _ _ (sym c.in-Ok.ensures) _ _ c.decode-t.ensures c.if-is_some.ensures
 
 pub returns-then-t-sealed_len : goal.returns-then-t-sealed_len
 returns-then-t-sealed_len c =
-    table_differs _ _ (sym c.in-Ok.ensures) _ _ c.decode-t.ensures c.if-is_some.ensures c.sealed_len.ensures c.if-t-sealed_len.true
-    c.empty-then-t-sealed_len.ensures c.outside-then-t-sealed_len.ensures
+    table_differs _ _ (sym c.in-Ok.ensures) _ _ c.decode-t.ensures c.if-is_some.ensures (rw c.block-block.ensures at c.sealed_len.ensures) c.if-t-sealed_len.true
+    c.empty-then-t-sealed_len.ensures c.from-then-t-sealed_len.ensures
 
 pub returns : goal.returns
-returns c = table_placed _ _ (sym c.in-Ok.ensures) _ _ c.decode-t.ensures c.if-is_some.ensures c.sealed_len.ensures c.if-t-sealed_len.false
+returns c =
+    rw (c.body-body.ensures, c.block-block.ensures)
+    (table_placed _ _ (sym c.in-Ok.ensures) _ _ c.decode-t.ensures c.if-is_some.ensures (rw c.block-block.ensures at c.sealed_len.ensures) c.if-t-sealed_len.false)
