@@ -12,7 +12,7 @@ use log_item::Span;
 use refusal::Refusal;
 
 // How much a batch holds, and where its body and its block stand.
-#[derive(Clone, Copy)]
+#[derive(Clone, Copy, Debug, PartialEq, Eq)]
 pub struct BatchCheck {
     pub check: BodyCheck,
     pub body: Span,

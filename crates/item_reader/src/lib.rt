@@ -19,7 +19,7 @@ use refusal::{Reason, Refusal};
 
 // Where the rows of an item stand that are still to be read: the place of the next tail, the total before it, the index of its entry,
 // and how many there are. No caller sees them, since where none is left the index is the one after the last, which is never shown.
-#[derive(Clone, Copy)]
+#[derive(Clone, Copy, Debug, PartialEq, Eq)]
 pub struct EntryRows {
     at: usize,
     total: u32,
@@ -28,14 +28,14 @@ pub struct EntryRows {
 }
 
 // A row, and the rows after it.
-#[derive(Clone, Copy)]
+#[derive(Clone, Copy, Debug, PartialEq, Eq)]
 pub struct NextRow {
     pub row: EntryIndex,
     pub rest: EntryRows,
 }
 
 // An item, and where its rows stand.
-#[derive(Clone, Copy)]
+#[derive(Clone, Copy, Debug, PartialEq, Eq)]
 pub struct Found {
     pub item: LogItem,
     pub rows: EntryRows,
@@ -43,7 +43,7 @@ pub struct Found {
 
 // A place to step from in a body that is lent at each step. One that was started on a body stands at an item of it or at its end, or has
 // its refusal.
-#[derive(Clone, Copy)]
+#[derive(Clone, Copy, Debug, PartialEq, Eq)]
 pub struct Cursor {
     // the place of the next item, and the total and the number of entries before it
     pub at: usize,
@@ -57,14 +57,14 @@ pub struct Cursor {
 }
 
 // Where a cursor stands after a step, and what the step answers: an item, or none where none is left, or the body's refusal.
-#[derive(Clone, Copy)]
+#[derive(Clone, Copy, Debug, PartialEq, Eq)]
 pub struct Stepped {
     pub cursor: Cursor,
     pub answer: Result<Option<Found>, Refusal>,
 }
 
 // A reader of the body that it was opened on.
-#[derive(Clone, Copy)]
+#[derive(Clone, Copy, Debug, PartialEq, Eq)]
 pub struct ItemReader<'a> {
     pub body: &'a [u8],
     pub cursor: Cursor,

@@ -38,7 +38,7 @@ const NO_ROOM: Refusal = Refusal {
 };
 
 // The length of a body, footer included, and the sum of its entry lengths.
-#[derive(Clone, Copy)]
+#[derive(Clone, Copy, Debug, PartialEq, Eq)]
 pub struct Measured {
     pub length: usize,
     pub total: u32,

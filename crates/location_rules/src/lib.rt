@@ -13,7 +13,7 @@ use pipe_log::{Location, LogQueue};
 use refusal::Reason;
 
 // A table by value. Its rows are lent beside it, and row i has the index first + i.
-#[derive(Clone, Copy)]
+#[derive(Clone, Copy, Debug, PartialEq, Eq)]
 pub struct Table {
     // first index
     pub first: u64,
@@ -22,7 +22,7 @@ pub struct Table {
 }
 
 // What ends a run of rows: a row of the append queue, a row of the rewrite queue, or a row whose file number is above a gate.
-#[derive(Clone, Copy)]
+#[derive(Clone, Copy, Debug, PartialEq, Eq)]
 pub enum Stop {
     Append,
     Rewrite,
@@ -75,21 +75,21 @@ pub fn is_ready(wrong: usize, n: usize, first: u64) -> bool
 }
 
 // The answer to a rewrite: how many rows were replaced, and the rewritten count.
-#[derive(Clone, Copy)]
+#[derive(Clone, Copy, Debug, PartialEq, Eq)]
 pub struct Rewritten {
     pub replaced: usize,
     pub count: usize,
 }
 
 // The answer to a fetch: the place and length of the run.
-#[derive(Clone, Copy)]
+#[derive(Clone, Copy, Debug, PartialEq, Eq)]
 pub struct Fetched {
     pub place: usize,
     pub len: usize,
 }
 
 // The overlap of a table and incoming rows: the table's rows start to end, and the incoming rows from `from` on. Nothing: 0, 0, 0.
-#[derive(Clone, Copy, Default)]
+#[derive(Clone, Copy, Debug, Default, PartialEq, Eq)]
 pub struct Overlap {
     pub start: usize,
     pub end: usize,

@@ -10,14 +10,14 @@ use pipe_log::Location;
 use refusal::Reason;
 
 // Rows by value: the first `len` of these.
-#[derive(Clone, Copy)]
+#[derive(Clone, Copy, Debug, PartialEq, Eq)]
 pub struct Rows {
     pub all: [Location; 64],
     pub len: usize,
 }
 
 // What a rewrite by value leaves: its answer, and the rows after it.
-#[derive(Clone, Copy)]
+#[derive(Clone, Copy, Debug, PartialEq, Eq)]
 pub struct AfterRewrite {
     pub answer: Result<Rewritten, Reason>,
     pub rows: Rows,

@@ -25,7 +25,7 @@ pub use view::{check_entry, entry_view};
 
 // What a body holds: the first item_count rows of items and entry_count rows of entries; rows past them are blank. Keys and contents
 // are spans of the body. A refused reading has no rows.
-#[derive(Clone, Copy)]
+#[derive(Clone, Copy, Debug, PartialEq, Eq)]
 pub struct LogItemBatch {
     pub items: [LogItem; 256],
     pub item_count: usize,
@@ -41,7 +41,7 @@ pub struct LogItemBatch {
 }
 
 // How much a body holds, with no table: numbers of items and entries, the entry total and the place after the last item.
-#[derive(Clone, Copy)]
+#[derive(Clone, Copy, Debug, PartialEq, Eq)]
 pub struct BodyCheck {
     pub items: usize,
     pub entries: usize,
@@ -50,7 +50,7 @@ pub struct BodyCheck {
 }
 
 // What a mark says of its group of batches.
-#[derive(Clone, Copy)]
+#[derive(Clone, Copy, Debug, PartialEq, Eq)]
 pub enum AtomicGroupStatus {
     Begin,
     Middle,
@@ -58,14 +58,14 @@ pub enum AtomicGroupStatus {
 }
 
 // The status that an item marks, and the group's number.
-#[derive(Clone, Copy)]
+#[derive(Clone, Copy, Debug, PartialEq, Eq)]
 pub struct Mark {
     pub id: u64,
     pub status: AtomicGroupStatus,
 }
 
 // The frame of a batch, as its header states it.
-#[derive(Clone, Copy)]
+#[derive(Clone, Copy, Debug, PartialEq, Eq)]
 pub struct LogBatch {
     // where the body starts
     pub offset: usize,

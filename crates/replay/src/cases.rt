@@ -5,7 +5,7 @@ use crate::{batches, bodies, locations, number};
 use std::io::{self, Read};
 
 // Lines that are a case, and those on which both answers are the same.
-#[derive(Clone, Copy)]
+#[derive(Clone, Copy, Debug, PartialEq, Eq)]
 pub(crate) struct Counts {
     pub(crate) cases: u64,
     pub(crate) agree: u64,

@@ -6,7 +6,7 @@ use location_table::Rows;
 use std::io;
 
 // A table and its rows.
-#[derive(Clone, Copy)]
+#[derive(Clone, Copy, Debug, PartialEq, Eq)]
 struct Memtable {
     rows: Rows,
     table: Table,
