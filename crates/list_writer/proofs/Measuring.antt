@@ -63,10 +63,6 @@ pub measured_22 : (t size : ℕ) → 4294967291 < size → refused OutputTooLong
 unfolding measured_of
 measured_22 t size h = rw (lt-leb (size + 4) 4294967295 (omega arith))
 
-pub measured_fine : (t size : ℕ) → size ≤ 4294967291 → Ok (measured (size + 4) t) ≡ measured_of (Ok t) size
-unfolding measured_of
-measured_fine t size h = rw (le-leb (size + 4) 4294967295 (omega arith))
-
 measured_capped : (t size n : ℕ) → capped size ≡ capped n → measured_of (Ok t) size ≡ measured_of (Ok t) n
 measured_capped t size n e = go (ltb 4294967291 size) refl
   where
@@ -83,10 +79,6 @@ module _ (s : List ℕ) (checked : Bool) (xs : List LogItem) (ns : List ℕ) whe
   pub measured_9 : 256 < length xs → refused ItemsTooMany 0 ≡ measure_of s checked xs ns
   unfolding measure_of list_verdict measured_of
   measured_9 h = rw (lt-leb (length xs) 256 h)
-
-  pub list_refused : {r : Reason} {k : ℕ} → length xs ≤ 256 → items_verdict s checked xs ns 0 0 0 ≡ refused r k → refused r k ≡ measure_of s checked xs ns
-  unfolding measure_of list_verdict measured_of
-  list_refused h e = rw (le-leb (length xs) 256 h, e)
 
 -- ---- the loop
 

@@ -30,12 +30,6 @@ use Rattle.list_writer.proofs.Measuring.{Measuring, measuring_item, measuring_it
 abbrev pub Row : Type 0
 Row = Result LogItem Reason
 
-pub items_few : (rows : List Row) → length (items_before rows) ≤ length rows
-unfolding items_before
-items_few [] = omega arith
-items_few (Ok x ∷ rows) = omega (arith, items_few rows)
-items_few (Err r ∷ rows) = omega arith
-
 -- A row behind items alone is an item of the list, where it is one.
 pub item_there : (rows : List Row) (i : ℕ) (x : LogItem) → get_or rows i (Ok x) ≡ Ok x → i < length rows → i ≤ length (items_before rows)
     → (i < length (items_before rows)) × (get_or (items_before rows) i blank_item ≡ x)

@@ -88,11 +88,6 @@ module _ (form : Form) (s : List ℕ) where
     pub few : i ≤ count
     pub comes : held_after i used (items form s (count - i) i used total at) ≡ check_of (items form s count 0 0 0 start)
 
-  pub left_start : (count start : ℕ) → ItemsLeft count start 0 start 0 0
-  left_start count start =
-      let all : count - 0 ≡ count = omega arith in
-      record { few = omega arith; comes = rw all (held_none (items form s count 0 0 0 start)) }
-
   -- what a body holds where i items and one that was gone over stand before k others
   abbrev held_past : ℕ → ℕ → Got Passed → Result BodyCheck Refusal
   held_past k i (got r q) = held_after (i + 1) r.used (items form s k (i + 1) r.used r.total q)

@@ -94,10 +94,6 @@ something items content (inl h) = rw (ne_eqb items 0 h)
 something items content (inr h) = rw (ne_eqb content 0 h) (and-false (eqb items 0))
 
 module _ (b : Measured) (items : ℕ) (content : List ℕ) (room : ℕ) (some : (items ≡ 0 → ⊥) ⊎ (length content ≡ 0 → ⊥)) where
-  pub refused_body : (r : Refusal) → batch_encoded (Err r) items content room ≡ Err r
-  unfolding batch_encoded
-  refused_body r = rw (something items (length content) some)
-
   pub refused_22 : 2147483647 < b.total → batch_encoded (Ok b) items content room ≡ refused OutputTooLong 0
   unfolding batch_encoded
   refused_22 h = rw (something items (length content) some, lt-leb b.total 2147483647 h)

@@ -8,8 +8,6 @@ use Rattle.item_row.specs.Reply.{Reply, reply}
 use Rattle.item_row.proofs.Replies.{same}
 use Rattle.list_writer.proofs.Determined.{written_once}
 use Rattle.log_batch.proofs.Determined.{batch_once}
-use Rattle.batch_rows.specs.declared.BatchCheck.{BatchCheck}
-use Rattle.batch_rows.specs.Rows.{BatchReadInto}
 use Rattle.raft_log.specs.Answers.{Replied, check_reply, batch_reply, written_reply}
 use Rattle.raft_log.specs.Locations.{rewrite_reply}
 use Rattle.raft_log.proofs.raft_log_crc32.Kinds as crc32_kinds
@@ -45,12 +43,6 @@ use Rattle.raft_log.proofs.locations.raft_log_fetch.Reads as fetch_reads
 same_replied : {A : Type 0} {P Q : A → Type 0} {f : A → Reply} {m n : ℕ} {v w : List ℕ} (p : Replied P f (reply m v)) (q : Replied Q f (reply n w))
     → f p.answer ≡ f q.answer → (m ≡ n) × (v ≡ w)
 same_replied p q e = same (p.replied ∙ e) q.replied
-
--- Two answers to the reading of a batch are replied alike.
-same_batch : {s : List ℕ} {signature : ℕ} {items entries later more later' more' : List ℕ} {b d : BatchCheck}
-    → BatchReadInto s signature items entries b later more → BatchReadInto s signature items entries d later' more'
-    → batch_reply b.check b.body b.block ≡ batch_reply d.check d.body d.block
-same_batch v w = cc
 
 pub crc32 : OneAnswer 1 crc32_kinds.ps crc32_kinds.r crc32_reads.Post (λ κs x y s t. x ≡ y)
 crc32 κs a x y s t p q = p ∙ sym q
@@ -90,8 +82,8 @@ pub read_batch : OneAnswer 4 read_batch_kinds.ps read_batch_kinds.r read_batch_r
 read_batch κs a x y s t p q =
     let v = p.promised in
     let w = q.promised in
-    let e = same_replied p q (same_batch v w) in
-    (e.0, e.1, v.rows.rows.item_rows ∙ sym w.rows.rows.item_rows, v.rows.rows.entry_rows ∙ sym w.rows.rows.entry_rows)
+    let e = same_replied p q (ap batch_reply (v.answer ∙ sym w.answer)) in
+    (e.0, e.1, v.rows.item_rows ∙ sym w.rows.item_rows, v.rows.entry_rows ∙ sym w.rows.entry_rows)
 
 pub write_body : OneAnswer 5 write_body_kinds.ps write_body_kinds.r write_body_reads.Post
     (λ κs x y s t. (x ≡ y) × (s.1.1.1.1.1.1.0.now ≡ t.1.1.1.1.1.1.0.now) × (s.1.1.1.1.1.0.now ≡ t.1.1.1.1.1.0.now))
@@ -110,7 +102,7 @@ write_batch κs a x y s t p q =
 pub rewrite : OneAnswer 3 rewrite_kinds.ps rewrite_kinds.r rewrite_reads.Post
     (λ κs x y s t. (x ≡ y) × (s.1.1.1.1.1.1.1.0.now ≡ t.1.1.1.1.1.1.1.0.now) × (s.0.now ≡ t.0.now))
 rewrite κs a x y s t p q =
-    let e = same_replied p q (ap rewrite_reply (p.promised.answer ∙ sym q.promised.answer)) in
+    let e = same_replied p q (ap (rewrite_reply a.1.1.0) (p.promised.answer ∙ sym q.promised.answer)) in
     (e.0, e.1, p.promised.after ∙ sym q.promised.after)
 
 pub fetch : OneAnswer 2 fetch_kinds.ps fetch_kinds.r fetch_reads.Post (λ κs x y s t. (x ≡ y) × (s.1.1.1.1.0.now ≡ t.1.1.1.1.0.now))

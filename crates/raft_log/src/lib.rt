@@ -28,7 +28,7 @@ pub use writing::{raft_log_write_batch, raft_log_write_body};
 
 // The words of an answer and 0; or the number of the reason, and words that are 0.
 fn put<const N: usize>(got: Result<[u64; N], Reason>, answer: &mut [u64; N]) -> u32
-    ensures { MatchResult got (λ words. reply result answer.new ≡ reply 0 words) (λ r. reply result answer.new ≡ reply (number_of r) (replicate N 0)) }
+    ensures { MatchResult got.entry (λ words. reply result answer.new ≡ reply 0 words) (λ r. reply result answer.new ≡ reply (number_of r) (replicate N 0)) }
 {
     match got {
         Ok(words) => {
@@ -36,7 +36,7 @@ fn put<const N: usize>(got: Result<[u64; N], Reason>, answer: &mut [u64; N]) -> 
             0
         }
         Err(reason) => {
-            *answer = [0; N];
+            answer.fill(0);
             reason.number()
         }
     }
@@ -143,6 +143,7 @@ pub extern "C" fn raft_log_is_plain(body: &[u8], signature: u32, answer: &mut [u
 
 // Where the bytes of an entry stand in the block that its row names.
 #[unsafe(no_mangle)]
+#[tactic(auto, unfolding(crate::specs::Answers::view_of))]
 pub extern "C" fn raft_log_entry_view(
     row: &[u64; 6],
     append: &[u8],
@@ -159,6 +160,7 @@ pub extern "C" fn raft_log_entry_view(
 }
 
 // Checks an entry against the block that its queue names.
+#[tactic(auto, unfolding(crate::specs::Answers::queue_check))]
 fn check_view(
     queue: u64,
     long: u64,
@@ -178,6 +180,7 @@ fn check_view(
 
 // The status that an item row marks.
 #[unsafe(no_mangle)]
+#[tactic(auto, unfolding(crate::specs::Answers::row_status))]
 pub extern "C" fn raft_log_status(row: &[u64; 7], store: &[u8], answer: &mut [u64; 2]) -> u32
     ensures { reply result answer.new ≡ row_status (item_of_row row.now 0) store.now }
 {

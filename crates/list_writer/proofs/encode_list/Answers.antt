@@ -1,7 +1,7 @@
 -- `list_writer::encode_list` meets its contract. The loops' invariant, `Writing`: what is left, stored from here on, completes count and items.
 -- Assumes nothing.
 use mathlib.Core.Path.{◌≡◌, sym, ap, ◌∙◌}
-use Prim.Native.Nat.{◌+◌, ◌-◌, ◌+◌}
+use Prim.Native.Nat.{◌+◌, ◌-◌}
 use native.Mathlib.Omega.{arith}
 use lib.ListN.{length-map}
 use Rattle.std.proofs.Common.{rules, Err}

@@ -5,7 +5,7 @@ use Rattle.log_batch.proofs.Frames.{front_known, table_refused, table_stays, tab
 use Rattle.log_batch.proofs.LogBatch.decode.Goals as goal
 
 pub slice_bounds-decode-count : goal.slice_bounds-decode-count
-slice_bounds-decode-count c = omega (arith, (front_known c.args.buf.now (sym c.in-Ok.ensures)).inside)
+slice_bounds-decode-count c = let f = front_known c.args.buf.now (sym c.in-Ok.ensures) in omega (arith, f.start, f.inside, f.there)
 
 pub slice_bounds-decode-start : goal.slice_bounds-decode-start
 slice_bounds-decode-start c = let f = front_known c.args.buf.now (sym c.in-Ok.ensures) in omega (arith, f.start, f.inside, f.there)
