@@ -23,7 +23,5 @@ pub(crate) fn is_bytes(line: &[u8], k: usize, bytes: &[u8]) -> bool {
 
 // Whether the answer from a word on is this refusal.
 pub(crate) fn is_refused(line: &[u8], k: usize, reason: Reason) -> bool {
-    k <= 1000
-        && is_word(line, k, b"refused")
-        && is_number(line, k + 1, u64::from(reason.number()))
+    k <= 1000 && is_word(line, k, b"refused") && is_number(line, k + 1, u64::from(reason.number()))
 }
