@@ -1,11 +1,10 @@
 -- The loops that store rows: what they know before each turn, how a turn keeps that, and that there is room for each row. They are the loops
 -- that fill a table, with the table's rows stored as words.
 -- Assumes nothing.
-use Rattle.std.proofs.Common.{◌≡◌, ℕ, suc, ◌+◌, ◌*◌, ◌%◌, ◌^◌, ◌<◌, ◌≤◌, Bool, true, false, leb, List, [], ◌++◌, length, take, drop, set, replicate, sym, refl, ap, ◌∙◌, arith, length-append, length-drop, take_at, drop_at, drop-drop, le-leb}
+use Rattle.std.proofs.Common.{◌≡◌, ℕ, suc, ◌+◌, ◌*◌, ◌%◌, ◌^◌, ◌<◌, ◌≤◌, Bool, true, false, leb, List, [], ◌++◌, length, take, drop, set, replicate, sym, refl, ap, ◌∙◌, arith, length-append, length-drop, take_at, drop_at, drop-drop}
 use mathlib.Core.List.{flat_map}
 use Rattle.refusal.specs.declared.Reason.{Reason}
 use Rattle.refusal.specs.declared.Reason.TheVariants.{ItemsTooMany}
-use Rattle.words.specs.Write.{placed}
 use Rattle.log_item.specs.Got.{got, refused}
 use Rattle.log_item.specs.Pieces.{number}
 use Rattle.log_item.specs.Entries.{entries_of, tail_row}
@@ -38,13 +37,13 @@ laid_length {lent} {words} w = omega (arith, ap length w.stands, length-append w
 
 -- More words, placed behind them.
 pub laid_more : {lent words mid later : List ℕ} {at : ℕ} (more : List ℕ) → Laid lent words mid → at ≡ length words → at + length more ≤ length mid
-    → later ≡ placed mid at more → Laid lent (words ++ more) later
+    → later ≡ take at mid ++ more ++ drop (at + length more) mid → Laid lent (words ++ more) later
 laid_more {lent} {words} {mid} {later} {at} more w here fits e =
     let long : length words + length more ≡ length (words ++ more) = sym (length-append words more) in
     record {
       room = omega (arith, laid_length w, long);
       stands =
-          (rw (le-leb _ _ fits) at e)
+          e
           ∙ rw (w.stands, take_at words (drop (length words) lent) at (sym here), ← drop-drop (length more) at (words ++ drop (length words) lent))
           (rw (drop_at words (drop (length words) lent) at (sym here), drop-drop (length more) (length words) lent, long));
     }
@@ -116,7 +115,7 @@ module _ {s items₀ entries₀ : List ℕ} (f : Fits s items₀ entries₀) whe
             let l = rows_length g.filled_rows (omega (arith, w.filling.room)) in
             omega (arith, h.1, f.entry_room, laid_length w.entry_rows)
 
-        pub storing_row : {at : ℕ} {later : List ℕ} → at ≡ j * 3 → later ≡ placed entries at (entry_words (tail_row index t u))
+        pub storing_row : {at : ℕ} {later : List ℕ} → at ≡ j * 3 → later ≡ take at entries ++ entry_words (tail_row index t u) ++ drop (at + 3) entries
             → Storing s items₀ entries₀ k items later i (j + 1) q u m ((index + 1) % 2 ^ 64)
         unfolding entry_words
         storing_row {at} {later} here l =
@@ -158,7 +157,7 @@ module _ {s items₀ entries₀ : List ℕ} (f : Fits s items₀ entries₀) whe
               let l = rows_length g.filled_items (omega (arith, w.filling.few)) in
               omega (arith, a.0, f.item_room, laid_length w.item_rows)
 
-          pub storing_item : {at : ℕ} {later : List ℕ} → at ≡ i * 7 → later ≡ placed items at (item_words x)
+          pub storing_item : {at : ℕ} {later : List ℕ} → at ≡ i * 7 → later ≡ take at items ++ item_words x ++ drop (at + 7) items
               → Storing s items₀ entries₀ k later entries (i + 1) j q t m d.first_index
           storing_item {at} {later} here l =
               let few : i ≤ 256 = omega (arith, w.filling.few) in
@@ -171,6 +170,6 @@ module _ {s items₀ entries₀ : List ℕ} (f : Fits s items₀ entries₀) whe
                 filling = item_after;
                 item_rows =
                     rw (rows_take w.filling.filled_items x below, flat_more item_words (take i w.table) x)
-                    (laid_more (item_words x) w.item_rows so_far fits l);
+                    (laid_more (item_words x) w.item_rows so_far fits (rw (item_words_length x) l));
                 entry_rows = w.entry_rows;
               }

@@ -4,7 +4,6 @@ use Rattle.std.proofs.Common.{◌≡◌, suc, ◌+◌, ◌-◌, sym, refl, arith
 use Rattle.log_item.specs.declared.Form.TheVariants.{Any}
 use Rattle.log_item.proofs.Known.{tail_known}
 use Rattle.item_row.specs.Row.{entry_words}
-use Rattle.item_row.proofs.Words.{item_words_length}
 use Rattle.rows_reader.proofs.Storing.{number_never, storing_start, row_never, row_room, storing_row, storing_item_done, stored_all, item_never, item_room, storing_item}
 use Rattle.rows_reader.proofs.fill.Goals as goal
 
@@ -18,9 +17,7 @@ pub returns-in_default-decode_head : goal.returns-in_default-decode_head
 returns-in_default-decode_head c = item_never c.requires c.loop-i.invariant refl c.loop-i-test.true (sym c.in_default-decode_head.ensures)
 
 pub put-requires : goal.put-requires
-put-requires c =
-    rw (c.words_of.ensures, item_words_length c.in-Ok-decode_head.head.value)
-    (item_room c.requires c.loop-i.invariant refl c.loop-i-test.true (sym c.in-Ok-decode_head.ensures) refl refl)
+put-requires c = (omega arith, item_room c.requires c.loop-i.invariant refl c.loop-i-test.true (sym c.in-Ok-decode_head.ensures) refl refl)
 
 pub loop-init : goal.loop-init
 loop-init c =
@@ -39,7 +36,7 @@ pub put-requires-in-loop : goal.put-requires-in-loop
 unfolding entry_words
 put-requires-in-loop c =
     let one : c.entries-listed.result.count - c.loop.counter ≡ suc (c.entries-listed.result.count - (c.loop.counter + 1)) = omega arith in
-    rw c.entry_words_of.ensures (row_room c.requires c.loop.invariant one (sym c.in-Ok-decode_tail.ensures))
+    (omega arith, row_room c.requires c.loop.invariant one (sym c.in-Ok-decode_tail.ensures))
 
 pub loop-preserved : goal.loop-preserved
 loop-preserved c =
