@@ -60,7 +60,13 @@ fn items(
 }
 
 // A line ends itself; nothing is shown of an item that has none.
-fn show(rt: &impl Print, line: &[u8], wrote: Option<usize>, out: &[u8], at: usize) -> io::Result<()> {
+fn show(
+    rt: &impl Print,
+    line: &[u8],
+    wrote: Option<usize>,
+    out: &[u8],
+    at: usize,
+) -> io::Result<()> {
     match wrote {
         Some(next) => {
             if at < next {

@@ -33,11 +33,7 @@ fn steps(rt: &impl Print, body: &[u8], first: Cursor, count: usize) -> io::Resul
     Ok(cursor)
 }
 
-fn answer(
-    rt: &impl Print,
-    body: &[u8],
-    got: Result<Option<Found>, Refusal>,
-) -> io::Result<()> {
+fn answer(rt: &impl Print, body: &[u8], got: Result<Option<Found>, Refusal>) -> io::Result<()> {
     match got {
         Ok(Some(found)) => {
             let item = found.item;
