@@ -1,3 +1,3 @@
 #![tactic(auto)]
 
-// What it means that a contract leaves no second answer, in specs/: of a covered function, and of one that is proved by hand. There is no code here.
+// What it means that a contract leaves no second answer, in specs/. There is no code here.

@@ -22,7 +22,7 @@ pub extern "C" fn speed_table(body: &[u8], signature: u32, answer: &mut [u64; 4]
     *answer = [
         t.item_count as u64,
         t.entry_count as u64,
-        t.total as u64,
+        u64::from(t.total),
         t.next as u64,
     ];
     t.refusal.map_or(0, |why| why.reason.number())

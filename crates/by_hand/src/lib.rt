@@ -1,3 +1,0 @@
-#![tactic(auto)]
-
-// What proofs by hand share, in proofs/. There is no code here.
