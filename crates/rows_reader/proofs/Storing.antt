@@ -1,8 +1,8 @@
 -- The loops that store rows: what they know before each turn, how a turn keeps that, and that there is room for each row. They are the loops
 -- that fill a table, with the table's rows stored as words.
 -- Assumes nothing.
-use Rattle.std.proofs.Common.{◌≡◌, ℕ, suc, ◌+◌, ◌*◌, ◌%◌, ◌^◌, ◌<◌, ◌≤◌, Bool, true, false, leb, List, [], ◌++◌, length, take, drop, set, replicate, sym, refl, ap, ◌∙◌, arith, length-append, length-drop, take_at, drop_at, drop-drop}
-use mathlib.Core.List.{flat_map}
+use Rattle.std.proofs.Common.{◌≡◌, ℕ, suc, ◌+◌, ◌-◌, ◌*◌, ◌%◌, ◌^◌, ◌<◌, ◌≤◌, Bool, true, false, leb, List, [], ◌++◌, length, take, drop, set, replicate, sym, refl, ap, ◌∙◌, arith, length-append, length-drop, take_at, drop_at, drop-drop}
+use mathlib.Core.List.{flat_map, append_assoc}
 use Rattle.refusal.specs.declared.Reason.{Reason}
 use Rattle.refusal.specs.declared.Reason.TheVariants.{ItemsTooMany}
 use Rattle.log_item.specs.Got.{got, refused}
@@ -47,6 +47,13 @@ laid_more {lent} {words} {mid} {later} {at} more w here fits e =
           ∙ rw (w.stands, take_at words (drop (length words) lent) at (sym here), ← drop-drop (length more) at (words ++ drop (length words) lent))
           (rw (drop_at words (drop (length words) lent) at (sym here), drop-drop (length more) (length words) lent, long));
     }
+
+-- What stands in a part, where the part is stored.
+pub part_stored : (at n : ℕ) (lent : List ℕ) {part words : List ℕ} → part ≡ words
+    → take at lent ++ (part ++ drop (at + n - at) (drop at lent)) ≡ take at lent ++ words ++ drop (at + n) lent
+part_stored at n lent {part} {words} e =
+    let long : at + n - at ≡ n = omega arith in
+    rw (long, drop-drop n at lent, e) (sym (append_assoc (take at lent) words (drop (at + n) lent)))
 
 -- ---- a body that is accepted
 

@@ -2,8 +2,9 @@
 // pass cannot refuse. No table is made on the way.
 #![tactic(auto)]
 
-ghost use Rattle.std.specs.Prelude.{◌≡◌, ◌+◌, ◌≤◌, ◌++◌, drop, length, take};
+ghost use Rattle.std.specs.Prelude.{◌≡◌, length};
 ghost use Rattle.log_item.specs.declared.Form.TheVariants.{Any};
+ghost use Rattle.item_row.specs.Row.{item_words, entry_words};
 ghost use Rattle.log_batch.specs.Reading.{read_items};
 ghost use Rattle.log_batch.specs.Total.{agreeing};
 ghost use Rattle.log_batch.specs.Body.{read_body};
@@ -68,7 +69,7 @@ fn fill(buf: &[u8], items: &mut [u64], entries: &mut [u64])
             return;
         };
         let item = head.value;
-        put(item_row::words_of(item), items, i * 7);
+        put_item(item, &mut items[i * 7..i * 7 + 7]);
         at = head.next;
         let listed = item.entries();
         let mut index = listed.first_index;
@@ -81,7 +82,7 @@ fn fill(buf: &[u8], items: &mut [u64], entries: &mut [u64])
                 entry_offset: total,
                 entry_len: tail.value - total,
             };
-            put(item_row::entry_words_of(row), entries, j * 3);
+            put_entry(row, &mut entries[j * 3..j * 3 + 3]);
             j += 1;
             at = tail.next;
             total = tail.value;
@@ -90,20 +91,22 @@ fn fill(buf: &[u8], items: &mut [u64], entries: &mut [u64])
     }
 }
 
-// Stores words at a place.
-fn put<const N: usize>(words: [u64; N], rows: &mut [u64], at: usize)
-    requires { at + N ≤ length rows.old }
-    ensures { rows.new ≡ take at rows.old ++ words.entry ++ drop (at + N) rows.old }
+// Stores the row of an item.
+fn put_item(item: LogItem, row: &mut [u64])
+    requires { length row.old ≡ 7 }
+    ensures { row.new ≡ item_words item }
 {
-    lay(words, &mut rows[at..at + N]);
+    if let Some(row) = row.as_mut_array::<7>() {
+        item_row::store_words(item, row);
+    }
 }
 
-// Stores words as a whole row, in one assignment: copying a slice takes ten instructions more, for its words go through memory.
-fn lay<const N: usize>(words: [u64; N], row: &mut [u64])
-    requires { length row.old ≡ N }
-    ensures { row.new ≡ words.entry }
+// Stores the row of an entry, in one assignment: copying a slice takes ten instructions more, for its words go through memory.
+fn put_entry(entry: EntryIndex, row: &mut [u64])
+    requires { length row.old ≡ 3 }
+    ensures { row.new ≡ entry_words entry }
 {
-    if let Some(row) = row.as_mut_array::<N>() {
-        *row = words;
+    if let Some(row) = row.as_mut_array::<3>() {
+        *row = item_row::entry_words_of(entry);
     }
 }

@@ -1,10 +1,9 @@
 -- `rows_reader::fill` meets its contract.
 -- Assumes nothing.
-use Rattle.std.proofs.Common.{◌≡◌, suc, ◌+◌, ◌-◌, sym, refl, arith}
+use Rattle.std.proofs.Common.{◌≡◌, suc, ◌+◌, ◌-◌, ◌*◌, sym, refl, arith}
 use Rattle.log_item.specs.declared.Form.TheVariants.{Any}
 use Rattle.log_item.proofs.Known.{tail_known}
-use Rattle.item_row.specs.Row.{entry_words}
-use Rattle.rows_reader.proofs.Storing.{number_never, storing_start, row_never, row_room, storing_row, storing_item_done, stored_all, item_never, item_room, storing_item}
+use Rattle.rows_reader.proofs.Storing.{part_stored, number_never, storing_start, row_never, row_room, storing_row, storing_item_done, stored_all, item_never, item_room, storing_item}
 use Rattle.rows_reader.proofs.fill.Goals as goal
 
 pub returns-in_default : goal.returns-in_default
@@ -16,13 +15,12 @@ loop-i-init c = storing_start c.requires (sym c.in-Ok.ensures)
 pub returns-in_default-decode_head : goal.returns-in_default-decode_head
 returns-in_default-decode_head c = item_never c.requires c.loop-i.invariant refl c.loop-i-test.true (sym c.in_default-decode_head.ensures)
 
-pub put-requires : goal.put-requires
-put-requires c = (omega arith, item_room c.requires c.loop-i.invariant refl c.loop-i-test.true (sym c.in-Ok-decode_head.ensures) refl refl)
+pub slice_bounds-put_item-end : goal.slice_bounds-put_item-end
+slice_bounds-put_item-end c = item_room c.requires c.loop-i.invariant refl c.loop-i-test.true (sym c.in-Ok-decode_head.ensures) refl refl
 
 pub loop-init : goal.loop-init
 loop-init c =
-    storing_item c.requires c.loop-i.invariant refl c.loop-i-test.true (sym c.in-Ok-decode_head.ensures) c.entries-listed.ensures (omega arith) refl
-    (rw c.words_of.ensures at c.put.ensures)
+    storing_item c.requires c.loop-i.invariant refl c.loop-i-test.true (sym c.in-Ok-decode_head.ensures) c.entries-listed.ensures (omega arith) refl (part_stored (c.loop-i.i * 7) 7 c.loop-i.items c.put_item.ensures)
 
 pub returns-in_default-decode_tail : goal.returns-in_default-decode_tail
 returns-in_default-decode_tail c =
@@ -32,16 +30,15 @@ returns-in_default-decode_tail c =
 pub overflow_sub-row : goal.overflow_sub-row
 overflow_sub-row c = omega (arith, tail_known Any _ _ _ (sym c.in-Ok-decode_tail.ensures))
 
-pub put-requires-in-loop : goal.put-requires-in-loop
-unfolding entry_words
-put-requires-in-loop c =
+pub slice_bounds-put_entry-end : goal.slice_bounds-put_entry-end
+slice_bounds-put_entry-end c =
     let one : c.entries-listed.result.count - c.loop.counter ≡ suc (c.entries-listed.result.count - (c.loop.counter + 1)) = omega arith in
-    (omega arith, row_room c.requires c.loop.invariant one (sym c.in-Ok-decode_tail.ensures))
+    row_room c.requires c.loop.invariant one (sym c.in-Ok-decode_tail.ensures)
 
 pub loop-preserved : goal.loop-preserved
 loop-preserved c =
     let one : c.entries-listed.result.count - c.loop.counter ≡ suc (c.entries-listed.result.count - (c.loop.counter + 1)) = omega arith in
-    storing_row c.requires c.loop.invariant one (sym c.in-Ok-decode_tail.ensures) refl (rw c.entry_words_of.ensures at c.put-in-loop.ensures)
+    storing_row c.requires c.loop.invariant one (sym c.in-Ok-decode_tail.ensures) refl (part_stored (c.loop.j * 3) 3 c.loop.entries c.put_entry.ensures)
 
 pub loop-i-preserved : goal.loop-i-preserved
 loop-i-preserved c = storing_item_done c.requires c.loop.invariant (omega arith)
