@@ -2,7 +2,6 @@
 -- Assumes nothing.
 use mathlib.Core.Path.{◌≡◌}
 use native.Mathlib.Omega.{arith}
-use Prim.Native.Nat.{ℕ}
 use Rattle.refusal.specs.declared.Reason.{Reason}
 use Rattle.refusal.specs.declared.Reason.TheVariants.{HeaderShort, CompressionUnknown, OffsetAboveLength, OffsetBelowHeader, NoContent, ChecksumWrong, NumberBroken, NotShortest, ItemsTooMany, ItemTypeUnknown, CommandUnknown, OpUnknown, SpanOutside, EntriesTooMany, TailFalls, TailTooLarge, IndexTooLarge, BatchShort, Compressed, BlockDiffers, OutputShort, OutputTooLong, KeyInternal, OverlapAfter, OverlapBefore, TableBroken, IncomingBroken, StatusUnknown}
 use Rattle.refusal.specs.Number.{number_of}
