@@ -99,16 +99,19 @@ body_length {s} {checked} {xs} {ns} signature a =
 
 -- ---- the answer
 
-module _ (m : Measured) (all at : ℕ) where
+module _ (m : Measured) (all at : ℕ) (some : 0 < m.length) where
   pub placing_21 : all < at + m.length → refused OutputShort 0 ≡ encoded_in (Ok m) all at
-  placing_21 l = rw (lt-leb (at + m.length) all l)
+  placing_21 l = rw (ne_eqb m.length 0 (λ z. omega arith), lt-leb (at + m.length) all l)
 
   pub placing_fits : at + m.length ≤ all → Ok m.length ≡ encoded_in (Ok m) all at
-  placing_fits l = rw (le-leb (at + m.length) all l)
+  placing_fits l = rw (ne_eqb m.length 0 (λ z. omega arith), le-leb (at + m.length) all l)
 
   -- What is not refused fits.
   pub placing_told : {n : ℕ} → Ok n ≡ encoded_in (Ok m) all at → (at + m.length ≤ all) × (n ≡ m.length)
-  placing_told {n} e = let k = else_fine (leb (at + m.length) all) _ _ (sym e) in (leb-true _ _ k.0, cc)
+  placing_told {n} e =
+      let f = rw (ne_eqb m.length 0 (λ z. omega arith)) at e in
+      let k = else_fine (leb (at + m.length) all) _ _ (sym f) in
+      (leb-true _ _ k.0, cc)
 
 -- ---- the ways out
 
@@ -126,7 +129,7 @@ module _ (out : List ℕ) (at : ℕ) (bs : List ℕ) {e : Result Measured Refusa
         → Stored out at bs next later → MeasuredWritten e bs out at (Ok n) later
     unfolding laid encoded_of
     all_laid {n} {next} {later} p k some w =
-        let f = placing_told m (length out) at p in
+        let f = placing_told m (length out) at (omega arith) p in
         let fit : at + length bs ≤ length out = omega (arith, f.0) in
         rw h
         (record {

@@ -1,6 +1,6 @@
 -- What the measure of a body and its writer answer, and what the writer leaves in the buffer.
 -- Assumes nothing.
-use Rattle.std.specs.Prelude.{ℕ, ◌+◌, Bool, cond, List, ◌≡◌, Result, Ok, Err, leb, eqb, length}
+use Rattle.std.specs.Prelude.{not, ℕ, ◌+◌, Bool, cond, List, ◌≡◌, Result, Ok, Err, leb, eqb, length}
 use Rattle.log_item.specs.declared.LogItem.{LogItem}
 use Rattle.list_writer.specs.declared.Measured.{Measured}
 use Rattle.list_writer.specs.Bytes.{list_bytes}
@@ -24,10 +24,12 @@ measured_of verdict n = do
 unfoldable pub measure_of : List ℕ → Bool → List LogItem → List ℕ → Result Measured Refusal
 measure_of s checked xs lengths = measured_of (list_verdict s checked xs lengths) (length (list_bytes s xs lengths))
 
--- the measure's refusal, then 21: the body does not fit from the place `at` on among `all` bytes; or how many bytes were written
+-- the measure's refusal; a body of no bytes, which no measure gives, is not written; then 21: the body does not fit from the place `at` on
+-- among `all` bytes; or how many bytes were written
 abbrev pub encoded_in : Result Measured Refusal → ℕ → ℕ → Result ℕ Refusal
 encoded_in r all at = do
   m ← r
+  not (eqb m.length 0) else Ok 0
   leb (at + m.length) all else refused OutputShort 0
   Ok m.length
 

@@ -170,7 +170,7 @@ pub fn encode_list<I: ItemRow, E: EntryRow>(
     ensures { MeasuredWritten (rows_measure store.now checked (map I.spelled items.now) (map E.length entries.now)) (rows_bytes store.now (map I.spelled items.now) (map E.length entries.now) signature) out.old at result out.new }
 {
     let m = measure_list(items, entries, store, checked)?;
-    let length = placing(m, out.len(), at)?;
+    let length = placing(Ok(m), out.len(), at)?;
     let mut next = codec::put_var_u64(items.len() as u64, out, at);
     let mut used: usize = 0;
     let mut total: u32 = 0;
@@ -190,10 +190,15 @@ pub fn encode_list<I: ItemRow, E: EntryRow>(
     Ok(length)
 }
 
-// What writing a measured body at a place among `all` bytes answers: 21, or how many bytes it has.
-pub fn placing(m: Measured, all: usize, at: usize) -> Result<usize, Refusal>
-    ensures { result ≡ encoded_in (Ok m) all at }
+// What writing a measured body at a place among `all` bytes answers: the measure's refusal, 21, or how many bytes it has. A body of no bytes,
+// which no measure gives, is not written.
+pub fn placing(m: Result<Measured, Refusal>, all: usize, at: usize) -> Result<usize, Refusal>
+    ensures { result ≡ encoded_in m all at }
 {
+    let m = m?;
+    if m.length == 0 {
+        return Ok(0);
+    }
     if all < at || all - at < m.length {
         return Err(NO_ROOM);
     }

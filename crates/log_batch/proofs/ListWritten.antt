@@ -45,15 +45,18 @@ module _ (s : List ℕ) (checked : Bool) (xs : List LogItem) (ns : List ℕ) (si
       left : {x : Refusal} → r ≡ Err x → Encodes r later
       left e = leaves e (w.written ∙ (rw e))
 
+      some_of : (m : Measured) → measure_of s checked xs ns ≡ Ok m → m.length ≡ 0 → ⊥
+      some_of m e z = omega (arith, (sized_where (list_verdict s checked xs ns) (length (list_bytes s xs ns)) e).long)
+
       room : (m : Measured) → measure_of s checked xs ns ≡ Ok m → (b : Bool) → leb (at + m.length) (length out) ≡ b → Encodes r later
       room m e true h =
           let f = sized_where (list_verdict s checked xs ns) (length (list_bytes s xs ns)) e in
-          let k : r ≡ Ok m.length = w.answer ∙ (rw (e, h)) in
+          let some = some_of m e in
+          let k : r ≡ Ok m.length = w.answer ∙ (rw (e, ne_eqb m.length 0 some, h)) in
           let whole = body_length signature (accepted s checked xs ns m (sym e)) in
-          let some : m.length ≡ 0 → ⊥ = λ z. omega (arith, f.long) in
           let fit : at + length (body_bytes s xs ns signature) ≤ length out = omega (arith, leb-true (at + m.length) (length out) h) in
           writes (rw whole k) f.told (w.written ∙ (rw (k, ne_eqb m.length 0 some, le-leb _ (length out) fit)))
-      room m e false h = left {x = record { reason = OutputShort; item = 0 }} (w.answer ∙ (rw (e, h)))
+      room m e false h = left {x = record { reason = OutputShort; item = 0 }} (w.answer ∙ (rw (e, ne_eqb m.length 0 (some_of m e), h)))
 
       go : (m : Result Measured Refusal) → measure_of s checked xs ns ≡ m → Encodes r later
       go (Ok m) e = room m e (leb (at + m.length) (length out)) refl

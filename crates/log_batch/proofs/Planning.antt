@@ -1,6 +1,6 @@
 -- What a whole batch comes to before it is written: the lengths of its parts, what its answer tells, and where it is refused.
 -- Assumes nothing.
-use Rattle.std.proofs.Common.{◌≡◌, ℕ, ◌+◌, ◌*◌, ◌<◌, ◌≤◌, Bool, true, false, cond, not, ◌&&◌, eqb, leb, ◌⊎◌, List, [], ◌++◌, length, Result, Ok, Err, refl, ap, ◌∙◌, inl, inr, arith, length-append, eq-eqb, ne_eqb, eqb-true, le-leb, leb-true}
+use Rattle.std.proofs.Common.{◌≡◌, ℕ, ◌+◌, ◌*◌, ◌<◌, ◌≤◌, Bool, true, false, cond, not, ◌&&◌, eqb, leb, ◌⊎◌, List, [], ◌++◌, length, Result, Ok, Err, refl, sym, ap, ◌∙◌, inl, inr, arith, length-append, eq-eqb, ne_eqb, eqb-true, le-leb, leb-true}
 use mathlib.Core.Bool.{and-false}
 use lib.Bits.{xor_zero_r}
 use borrow.Author.Tests.{lt-leb, eqb-false}
@@ -9,6 +9,7 @@ use Rattle.words.proofs.Words.{length_big, length_little}
 use Rattle.crc.specs.Crc.{crc_of}
 use Rattle.refusal.specs.declared.Reason.TheVariants.{BlockDiffers, OutputShort, OutputTooLong}
 use Rattle.refusal.specs.declared.Refusal.{Refusal}
+use Rattle.refusal.proofs.First.{not_second}
 use Rattle.list_writer.specs.declared.Measured.{Measured}
 use Rattle.list_writer.specs.Bytes.{footed}
 use Rattle.list_writer.proofs.Heads.{else_fine}
@@ -60,11 +61,12 @@ pub record Planned (b : Measured) (content : List ℕ) (room n : ℕ) : Type 0 w
   pub fits : n ≤ room
 
 module _ (items : ℕ) (content : List ℕ) (room : ℕ) {n : ℕ} where
-  planned_body : (b : Measured) → batch_encoded (Ok b) 1 content room ≡ Ok n → Planned b content room n
+  planned_body : (b : Measured) → batch_encoded (Ok b) 1 content room ≡ Ok n → (n ≡ 0 → ⊥) → Planned b content room n
   unfolding batch_encoded
-  planned_body b e =
+  planned_body b e h =
       let size : ℕ = body_offset content + b.length in
-      let p = else_fine (leb b.total 2147483647) _ _ e in
+      let some = not_second (not (eqb b.length 0)) (sym e) (λ z. let w : n ≡ 0 = cc in h w) in
+      let p = else_fine (leb b.total 2147483647) _ _ (sym some.1) in
       let q = else_fine (eqb b.total (length content)) _ _ p.1 in
       let r = else_fine (leb size room) _ _ q.1 in
       let few = leb-true b.total 2147483647 p.0 in
@@ -80,7 +82,7 @@ module _ (items : ℕ) (content : List ℕ) (room : ℕ) {n : ℕ} where
     where
       go : (c : Bool) (k : Result Measured Refusal) → m ≡ k → cond c (batch_encoded k 1 content room) (Ok 0) ≡ Ok n
           → (b : Measured) × (m ≡ Ok b) × Planned b content room n
-      go true (Ok b) e f = (b, e, planned_body b f)
+      go true (Ok b) e f = (b, e, planned_body b f h)
       go true (Err r) e f = cc
       go false k e f = let z : 0 ≡ n = cc in absurd (h (omega arith))
 
@@ -93,17 +95,17 @@ something : (items content : ℕ) → (items ≡ 0 → ⊥) ⊎ (content ≡ 0 �
 something items content (inl h) = rw (ne_eqb items 0 h)
 something items content (inr h) = rw (ne_eqb content 0 h) (and-false (eqb items 0))
 
-module _ (b : Measured) (items : ℕ) (content : List ℕ) (room : ℕ) (some : (items ≡ 0 → ⊥) ⊎ (length content ≡ 0 → ⊥)) where
+module _ (b : Measured) (items : ℕ) (content : List ℕ) (room : ℕ) (some : (items ≡ 0 → ⊥) ⊎ (length content ≡ 0 → ⊥)) (long : b.length ≡ 0 → ⊥) where
   pub refused_22 : 2147483647 < b.total → batch_encoded (Ok b) items content room ≡ refused OutputTooLong 0
   unfolding batch_encoded
-  refused_22 h = rw (something items (length content) some, lt-leb b.total 2147483647 h)
+  refused_22 h = rw (something items (length content) some, ne_eqb b.length 0 long, lt-leb b.total 2147483647 h)
 
   module _ (few : b.total ≤ 2147483647) where
     pub refused_20 : (b.total ≡ length content → ⊥) → batch_encoded (Ok b) items content room ≡ refused BlockDiffers 0
     unfolding batch_encoded
-    refused_20 h = rw (something items (length content) some, le-leb b.total 2147483647 few, ne_eqb b.total (length content) h)
+    refused_20 h = rw (something items (length content) some, ne_eqb b.length 0 long, le-leb b.total 2147483647 few, ne_eqb b.total (length content) h)
 
     pub refused_21 : b.total ≡ length content → room < body_offset content + b.length → batch_encoded (Ok b) items content room ≡ refused OutputShort 0
     unfolding batch_encoded
     refused_21 same h =
-        rw (something items (length content) some, le-leb b.total 2147483647 few, eq-eqb b.total (length content) same, lt-leb _ _ h)
+        rw (something items (length content) some, ne_eqb b.length 0 long, le-leb b.total 2147483647 few, eq-eqb b.total (length content) same, lt-leb _ _ h)

@@ -149,9 +149,10 @@ module _ (body block : Span) where
   unfolding table_of
   check_accepted xs rows u q = refl
 
-  pub check_refused : (r : Reason) (i : ℕ) {x : Refusal} → check_of (rejected r i) ≡ Err x → (table_of body block (rejected r i)).refusal ≡ Some x
+  pub check_refused : (r : Reason) (i : ℕ)
+      → (x : Refusal) × (check_of (rejected r i) ≡ Err x) × ((table_of body block (rejected r i)).refusal ≡ Some x)
   unfolding table_of
-  check_refused r i e = cc
+  check_refused r i = (record { reason = r; item = i }, refl, refl)
 
 -- ---- the worked examples, and tables
 

@@ -89,7 +89,7 @@ module _ {m k : Result Measured Refusal} (same : m ≡ k) {body : List ℕ} (siz
     unfolding encoded_of
     body_fits p =
         let room : n - b.length + b.length ≤ length mid = omega (arith, stored_length front, plan.size, plan.fits) in
-        p.answer ∙ (rw (← same, g, le-leb (n - b.length + b.length) (length mid) room))
+        p.answer ∙ (rw (← same, g, ne_eqb b.length 0 (sized.some (sym same ∙ g)), le-leb (n - b.length + b.length) (length mid) room))
 
     pub batch_stored : {later : List ℕ} {x : Result ℕ Refusal} → MeasuredWritten k body mid (n - b.length) x later → BatchWritten k items content body out r later
     unfolding laid framed
@@ -146,7 +146,7 @@ body_stands {m} {body} {out} {at} {n} {later} sized w = go m refl
     go : (k : Result Measured Refusal) → m ≡ k → (b : Measured) × (m ≡ Ok b) × (take n (drop at later) ≡ body)
     go (Err x) e = let f : Ok n ≡ Err x = w.answer ∙ (rw e) in cc
     go (Ok b) e =
-        let told = placing_told b (length out) at (w.answer ∙ (rw e)) in
+        let told = placing_told b (length out) at (omega (arith, sized.some e)) (w.answer ∙ (rw e)) in
         let long : length body ≡ n = omega (arith, sized.long e, told.1) in
         let some : n ≡ 0 → ⊥ = λ z. sized.some e (omega (arith, told.1)) in
         let fit : at + length body ≤ length out = omega (arith, told.0, told.1) in

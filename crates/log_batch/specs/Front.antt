@@ -26,11 +26,13 @@ header_bytes len offset = big_endian_bytes 8 (len * 256) ++ big_endian_bytes 8 o
 unfoldable pub front_bytes : ℕ → List ℕ → List ℕ
 front_bytes len content = header_bytes len (body_offset content) ++ block_bytes content
 
--- nothing where there are no items and no content; else the body's refusals and its 22, 22 for the entry total, 20, 21
+-- nothing where there are no items and no content; else the body's refusals and its 22; nothing for a body of no bytes, which no measure
+-- gives; 22 for the entry total, 20, 21
 unfoldable pub batch_encoded : Result Measured Refusal → ℕ → List ℕ → ℕ → Result ℕ Refusal
 batch_encoded m items content room = do
   not (items == 0 && length content == 0) else Ok 0
   b ← m
+  not (b.length == 0) else Ok 0
   nat_le b.total 2147483647 else refused OutputTooLong 0
   (b.total == length content) else refused BlockDiffers 0
   nat_le (body_offset content + b.length) room else refused OutputShort 0

@@ -47,6 +47,9 @@ fn plan(
         return Ok(0);
     }
     let body = m?;
+    if body.length == 0 {
+        return Ok(0);
+    }
     if 2147483647 < body.total {
         return Err(Refusal::from(Reason::OutputTooLong));
     }

@@ -3,6 +3,7 @@ use crate::answer;
 use log_batch::{AtomicGroupStatus, LogBatch, LogItemBatch};
 use log_item::LogItem;
 use pipe_log::{Location, LogQueue};
+use refusal::Reason;
 
 // header NAME BYTES = OFFSET LENGTH TYPE
 pub(crate) fn header(line: &[u8]) -> bool {
@@ -60,7 +61,7 @@ pub(crate) fn view(line: &[u8]) -> bool {
 }
 
 fn content<'a>(line: &[u8], row: Location, append: &'a [u8], rewrite: &'a [u8]) -> bool {
-    let mut refused = None;
+    let mut refused = Some(Reason::NotShortest);
     let bytes = log_batch::entry_view(row, append, rewrite, &mut refused);
     match refused {
         None => answer::is_bytes(line, 5, bytes),

@@ -1,6 +1,7 @@
 // The bytes of an entry, as a part of the block that its row's queue names: the refusal's number or 0, the part's length, and the part.
 use crate::{locations, text};
 use pipe_log::Location;
+use refusal::Reason;
 use std::io;
 
 pub(crate) fn case(rt: &impl Print, line: &[u8]) -> io::Result<()> {
@@ -30,7 +31,7 @@ fn row(line: &[u8]) -> Location {
 }
 
 fn view<'a>(rt: &impl Print, row: Location, append: &'a [u8], rewrite: &'a [u8]) -> io::Result<()> {
-    let mut refused = None;
+    let mut refused = Some(Reason::NotShortest);
     let bytes = log_batch::entry_view(row, append, rewrite, &mut refused);
     text::reason(rt, refused)?;
     text::number(rt, bytes.len() as u64)?;

@@ -24,7 +24,7 @@ returns-in_err-length g c =
 pub loop-row-init : goal.loop-row-init
 loop-row-init g c =
     let e = rows_accepted _ _ _ _ c.in_ok-m.m (sym c.in_ok-m.was ∙ c.measure_list.ensures) in
-    let p = placing_told c.in_ok-m.m _ c.args.at (sym c.in_ok-length.was ∙ c.placing.ensures) in
+    let p = placing_told c.in_ok-m.m _ c.args.at (omega (arith, (accepted _ _ _ _ c.in_ok-m.m e.0).whole)) (sym c.in_ok-length.was ∙ c.placing.ensures) in
     record { bytes = writing_begins (accepted _ _ _ _ c.in_ok-m.m e.0) p.0 (e.1 ∙ length-map c.args.items.now g.I.ItemRow.spelled) c.put_var_u64-next.ensures }
 
 pub returns-in_default : goal.returns-in_default
@@ -94,7 +94,7 @@ returns g c =
     let n = length-map c.args.items.now g.I.ItemRow.spelled in
     let a = accepted _ _ _ _ c.in_ok-m.m e.0 in
     let q = sym c.in_ok-length.was ∙ c.placing.ensures in
-    let p = placing_told c.in_ok-m.m _ c.args.at q in
+    let p = placing_told c.in_ok-m.m _ c.args.at (omega (arith, a.whole)) q in
     let l = body_length c.args.signature a in
     all_laid _ _ _ (sym c.measure_list.ensures ∙ c.in_ok-m.was) q l (omega (arith, a.whole))
     (body_stored a p.0 c.loop-row.invariant.bytes (omega arith) (omega (arith, n, e.1)) c.args.signature c.write_footer.ensures)
