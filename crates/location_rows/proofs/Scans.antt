@@ -1,13 +1,13 @@
 -- The loops over rows: whether each is a location's, and where a run of them ends.
 -- Assumes nothing.
 use mathlib.Core.Path.{◌≡◌, refl, sym, ap, ◌∙◌}
-use Prim.Native.Nat.{ℕ, zero, suc, ◌+◌, ◌-◌, ◌*◌, ◌<◌, ◌≤◌}
+use Prim.Native.Nat.{ℕ, zero, suc, ◌+◌, ◌-◌, ◌*◌, ◌<◌, ◌≤◌, min}
 use native.Mathlib.Nat.{add-zero}
 use native.Mathlib.Omega.{arith}
 use mathlib.Core.Bool.{Bool, true, false, cond, ◌&&◌}
 use mathlib.Core.List.{List, ◌++◌}
 use lib.Dec.{leb}
-use lib.ListN.{length, get_or, take, drop, get_or-append, length-append}
+use lib.ListN.{length, get_or, take, drop, get_or-append, length-append, length-take, length-drop}
 use lib.Seq.{drop-cons, get_or-drop}
 use borrow.Author.Tests.{le-leb, lt-leb}
 use Rattle.std.proofs.lemmas.List.{drop_at}
@@ -16,6 +16,7 @@ use Rattle.pipe_log.specs.declared.LogQueue.{LogQueue}
 use Rattle.location_rules.specs.declared.Stop.{Stop}
 use Rattle.location_rules.specs.Row.{stops_at, row_start}
 use Rattle.memtable.specs.Rows.{run_of}
+use Rattle.memtable.proofs.RunLaws.{run_le}
 use Rattle.location_rows.specs.Words.{queue_of, location_of, are_rows, location_count, located}
 use Rattle.location_rows.proofs.Rows.{located_length, location_at}
 
@@ -46,25 +47,30 @@ module _ (words : List ℕ) (stop : Stop) (hi : ℕ) where
   abbrev pub run_from : ℕ → ℕ
   run_from i = run_of stop (take (hi - i) (drop i (located words)))
 
-  run_step : (i : ℕ) → i < hi → hi ≤ length (located words) → run_from i ≡ cond (stops_at stop (get_or (located words) i no_row)) 0 (suc (run_from (suc i)))
-  run_step i l h =
-      ap (λ (m : ℕ). run_of stop (take m (drop i (located words)))) one
-      ∙ ap (λ (v : List Location). run_of stop (take (suc (hi - suc i)) v)) (drop-cons (located words) i no_row (omega (arith, l, h)))
-    where
-      one : hi - i ≡ suc (hi - suc i)
-      one = omega (arith, l)
+  -- the rows before hi are those before end
+  module _ {n end : ℕ} (all : n ≡ length (located words)) (cut : end ≡ min hi n) where
+    pub run_within : (i : ℕ) → run_from i ≤ end - i
+    run_within i = omega (arith, all, cut, run_le stop (take (hi - i) (drop i (located words))), length-take (hi - i) (drop i (located words)), length-drop i (located words))
 
-  module _ (i : ℕ) (l : i < hi) (h : hi ≤ length (located words)) {b : Bool} (e : b ≡ stops_at stop (row_start (queue_of (get_or words (i * 6) 0)) (get_or words (i * 6 + 1) 0))) where
-    row : stops_at stop (get_or (located words) i no_row) ≡ b
-    row =
-        ap (stops_at stop) (location_at (location_count words) i words no_row (omega (arith, l, h, located_length words)))
-        ∙ stops_same stop (location_of (drop (i * 6) words)) ∙ (rw (at_start words (i * 6), get_or-drop (i * 6) words 1 0) (sym e))
+    run_step : (i : ℕ) → i < end → run_from i ≡ cond (stops_at stop (get_or (located words) i no_row)) 0 (suc (run_from (suc i)))
+    run_step i l =
+        ap (λ (m : ℕ). run_of stop (take m (drop i (located words)))) one
+        ∙ ap (λ (v : List Location). run_of stop (take (suc (hi - suc i)) v)) (drop-cons (located words) i no_row (omega (arith, all, cut, l)))
+      where
+        one : hi - i ≡ suc (hi - suc i)
+        one = omega (arith, cut, l)
 
-    pub run_stops : b ≡ true → run_from i ≡ 0
-    run_stops f = run_step i l h ∙ ap (λ (t : Bool). cond t 0 (suc (run_from (suc i)))) (row ∙ f)
+    module _ (i : ℕ) (l : i < end) {b : Bool} (e : b ≡ stops_at stop (row_start (queue_of (get_or words (i * 6) 0)) (get_or words (i * 6 + 1) 0))) where
+      row : stops_at stop (get_or (located words) i no_row) ≡ b
+      row =
+          ap (stops_at stop) (location_at (location_count words) i words no_row (omega (arith, all, cut, l, located_length words)))
+          ∙ stops_same stop (location_of (drop (i * 6) words)) ∙ (rw (at_start words (i * 6), get_or-drop (i * 6) words 1 0) (sym e))
 
-    pub run_passes : b ≡ false → run_from i ≡ suc (run_from (suc i))
-    run_passes f = run_step i l h ∙ ap (λ (t : Bool). cond t 0 (suc (run_from (suc i)))) (row ∙ f)
+      pub run_stops : b ≡ true → run_from i ≡ 0
+      run_stops f = run_step i l ∙ ap (λ (t : Bool). cond t 0 (suc (run_from (suc i)))) (row ∙ f)
+
+      pub run_passes : b ≡ false → run_from i ≡ suc (run_from (suc i))
+      run_passes f = run_step i l ∙ ap (λ (t : Bool). cond t 0 (suc (run_from (suc i)))) (row ∙ f)
 
 -- ---- whether each row is a location's
 

@@ -43,19 +43,26 @@ impl Layout for Words {
 
     #[tactic(auto, using(crate::proofs::Rows::rows_room))]
     fn scan(words: &[u64], lo: usize, hi: usize, stop: Stop) -> usize {
-        for i in lo..hi {
+        let end = hi.min(Self::count(words));
+        for i in lo..end {
             let at = i * 6;
             if stops(words[at], words[at + 1], stop) {
                 return i;
             }
         }
-        hi
+        end.max(lo)
     }
 
+    // By a loop, and no copying of slices, for which the library for C would need memmove from outside.
     #[tactic(auto, using(crate::proofs::Rows::rows_room))]
     fn replace(words: &mut [u64], incoming: &[u64], start: usize, from: usize, k: usize) {
-        let (at, with, len) = (start * 6, from * 6, k * 6);
-        words[at..at + len].copy_from_slice(&incoming[with..with + len]);
+        let (n, m) = (Self::count(words), Self::count(incoming));
+        if start <= n && k <= n - start && from <= m && k <= m - from {
+            let (at, with, len) = (start * 6, from * 6, k * 6);
+            for i in 0..len {
+                words[at + i] = incoming[with + i];
+            }
+        }
     }
 }
 

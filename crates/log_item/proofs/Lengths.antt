@@ -6,7 +6,7 @@ use mathlib.Core.Bool.{true, and-eq-true_iff}
 use mathlib.Core.List.{List, ◌∷◌, ◌++◌}
 use native.Mathlib.Omega.{arith}
 use borrow.Author.Tests.{leb-true}
-use lib.ListN.{length, drop, length-append, length-take, length-drop}
+use lib.ListN.{length, take, drop, length-append, length-take, length-drop}
 use Rattle.codec.specs.Shortest.{shortest, spell}
 use Rattle.log_item.specs.Prefix.{bytes_of, inside}
 use Rattle.log_item.specs.Entries.{type_of}
@@ -83,3 +83,7 @@ none_length n i e = rw e
 
 pub some_length : (n i : ℕ) → (n ≡ 0 → ⊥) → length (entries_bytes n i) ≡ length (shortest n) + length (shortest i)
 some_length n i h = rw (entries_some n i h) (length-append (shortest n) (shortest i))
+
+-- The part of the store that a span names, by its start and its end.
+pub part_named : (s : List ℕ) (k : Span) → take (k.at + k.len - k.at) (drop k.at s) ≡ bytes_of s k
+part_named s k = let e : k.at + k.len - k.at ≡ k.len = omega arith in rw e

@@ -210,15 +210,15 @@ fn put_span(span: Span, store: &[u8], out: &mut [u8], at: usize) -> usize
     put_part(span, store, out, next)
 }
 
-#[tactic(auto, using(crate::proofs::Stores::stored_copied, crate::proofs::Lengths::part_length))]
 fn put_part(span: Span, store: &[u8], out: &mut [u8], at: usize) -> usize
     requires lies { inside store.now span ≡ true }
     requires room { Room out.old at (bytes_of store.now span) }
     ensures { Stored out.old at (bytes_of store.now span) result out.new }
 {
-    let next = at + span.len;
-    out[at..next].copy_from_slice(&store[span.at..span.at + span.len]);
-    next
+    match codec::write_bytes(&store[span.at..span.at + span.len], out, at) {
+        Some(next) => next,
+        None => at,
+    }
 }
 
 // A tail for each of the lengths.

@@ -1,14 +1,16 @@
--- Writing at a place of a lent buffer: what stands there afterwards, one law for each way out.
+-- Writing at a place of a lent buffer: what stands there afterwards, and the copying loop's invariant, one law for each way out.
 -- Assumes nothing.
-use Prim.Native.Nat.{ℕ, ◌+◌, ◌≤◌, ◌<◌}
+use Prim.Native.Nat.{ℕ, ◌+◌, ◌≤◌, ◌<◌, zero-le}
 use mathlib.Core.Path.{◌≡◌, refl, sym, ap, ◌∙◌}
 use mathlib.Core.Bool.{Bool, true, false, cond}
 use mathlib.Core.List.{List}
 use Rattle.std.specs.Prelude.{Option, Some, None}
 use native.Mathlib.Omega.{arith}
+use native.Mathlib.Nat.{add-zero, add-suc}
+use native.Mathlib.Numerals.{add-one}
 use lib.Dec.{leb}
-use lib.ListN.{length}
-use lib.Seq.{sets, sets-eq}
+use lib.ListN.{length, get_or, drop, set, length-set, drop_of_length-le}
+use lib.Seq.{sets, sets-eq, drop-cons}
 use borrow.Author.Tests.{le-leb, lt-leb}
 use Rattle.words.specs.Write.{placed, wrote_at, next_at}
 
@@ -19,6 +21,26 @@ pub room_for : (out : List ℕ) (at : ℕ) (bs : List ℕ) (r : List ℕ) (next 
     → (Some next ≡ wrote_at out at bs) × (r ≡ placed out at bs)
 room_for out at bs r next h e =
     (simp (le-leb _ _ h) (ap Some e.1), simp (le-leb _ _ h) (e.0 ∙ sets-eq bs out at h))
+
+-- What is left of src still has to be stored.
+pub record Copies (src out₀ : List ℕ) (at : ℕ) (out : List ℕ) (i : ℕ) : Type 0 where
+  pub within : i ≤ length src
+  pub same : length out ≡ length out₀
+  pub bytes : sets out (at + i) (drop i src) ≡ sets out₀ at src
+
+pub copies_start : (src out : List ℕ) (at : ℕ) → Copies src out at out 0
+copies_start src out at = record { within = zero-le; same = refl; bytes = ap (λ (p : ℕ). sets out p src) (add-zero at) }
+
+module _ {src out₀ : List ℕ} {at : ℕ} {out : List ℕ} {i : ℕ} where
+  pub copies_more : Copies src out₀ at out i → i < length src → Copies src out₀ at (set out (at + i) (get_or src i 0)) (i + 1)
+  copies_more w h = record {
+    within = omega arith;
+    same = length-set out (at + i) (get_or src i 0) ∙ w.same;
+    bytes = rw (add-one, add-suc at i) (rw (drop-cons src i 0 h) at w.bytes);
+  }
+
+  pub copies_done : Copies src out₀ at out i → length src ≤ i → out ≡ sets out₀ at src
+  copies_done w h = ap (sets out (at + i)) (sym (drop_of_length-le src h)) ∙ w.bytes
 
 -- The place alone.
 module _ (out : List ℕ) (at : ℕ) (bs : List ℕ) {w : Option ℕ} (e : w ≡ wrote_at out at bs) where

@@ -30,16 +30,17 @@ pub fn encode_u32_le(w: u32, out: &mut [u8], at: usize) -> Option<usize>
     write_bytes(&w.to_le_bytes(), out, at)
 }
 
-// The same of all of src.
+// The same of all of src. A loop, and no copying of slices, for which the library for C would need memmove from outside.
 pub fn write_bytes(src: &[u8], out: &mut [u8], at: usize) -> Option<usize>
     ensures { (result ≡ wrote_at out.old at src.now) × (out.new ≡ placed out.old at src.now) }
 {
     if out.len() < at || out.len() - at < src.len() {
         return None;
     }
-    let end = at + src.len();
-    out[at..end].copy_from_slice(src);
-    Some(end)
+    for i in 0..src.len() {
+        out[at + i] = src[i];
+    }
+    Some(at + src.len())
 }
 
 // The bytes of w, highest first, by its two halves.
