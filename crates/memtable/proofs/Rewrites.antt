@@ -8,8 +8,8 @@ use mathlib.Core.Bool.{Bool, true, false, ◌&&◌}
 use mathlib.Core.List.{List}
 use lib.Dec.{eqb}
 use lib.ListN.{length, take, drop}
-use borrow.Author.Tests.{eq-eqb, ne_eqb, eqb-true, eqb-false}
-use Rattle.std.specs.Prelude.{Option, Result, Ok}
+use borrow.Author.Tests.{le-leb, eq-eqb, ne_eqb, eqb-true, eqb-false}
+use Rattle.std.specs.Prelude.{Option, Result, Ok, nat_le, if◌then◌else◌}
 use Rattle.refusal.specs.declared.Reason.{Reason}
 use Rattle.pipe_log.specs.declared.Location.{Location}
 use Rattle.location_rules.specs.declared.Table.{Table}
@@ -115,10 +115,10 @@ module _ (xs : List Location) (t : Table) (ys : List Location) (first n m : ℕ)
           told true h = d_none (eqb-true len 0 h)
           told false h = d_some (eqb-false len 0 h)
 
-      -- rows are put from the place on where the definition puts them
+      -- rows are put, since they lie in both lists, from the place on where the definition puts them
       pub put_is : {A : Type 0} (put : List A → ℕ → List A → ℕ → ℕ → List A) → ((rows incoming : List A) (start from : ℕ) → rows ≡ put rows start incoming from 0) → (cells incoming : List A) (a : Rewritten) → d ≡ Ok a
-          → put cells p.start incoming p.from a.replaced ≡ put cells place incoming from a.replaced
-      put_is put none cells incoming a is = told (eqb len 0) refl
+          → (if nat_le (p.start + a.replaced) (length xs) && nat_le (p.from + a.replaced) (length ys) then put cells p.start incoming p.from a.replaced else cells) ≡ put cells place incoming from a.replaced
+      put_is put none cells incoming a is = let fits = run_fits a is in rw (le-leb _ _ fits.0, le-leb _ _ fits.1) (told (eqb len 0) refl)
         where
           replaced : (outcome d t.count).replaced ≡ a.replaced
           replaced = ap (λ (r : Result Rewritten Reason). (outcome r t.count).replaced) is

@@ -10,8 +10,10 @@ use lib.Dec.{leb, leb-suc-suc, leb-suc-zero}
 use lib.ListN.{length, take, drop, length-drop}
 use lib.Seq.{take_all, length-take-le}
 use borrow.Author.Tests.{lt-leb, leb-true, leb-false}
+use Rattle.std.specs.Prelude.{Err}
 use Rattle.std.specs.List.{list_all}
 use Rattle.std.proofs.lemmas.Bool.Decides.{nat_tests}
+use Rattle.refusal.specs.declared.Reason.TheVariants.{TableBroken}
 use Rattle.pipe_log.specs.declared.Location.{Location}
 use Rattle.location_rules.specs.declared.Table.{Table}
 use Rattle.location_rules.specs.declared.Stop.{Stop}
@@ -79,6 +81,12 @@ module _ (ys : List Location) (t : Table) where
           inside f b l (e₁ ∙ zero-add _ ∙ ap (λ (k : ℕ). run_of Stop.Append (take k ys)) (sub-zero c ∙ same)) (back ∙ ap (λ (k : ℕ). k + run_of Stop.Rewrite (drop k ys)) same)
       told false z = outside f b (leb-false t.count (length ys) z)
 
+-- a count above the rows
+pub not_formed : (isWhole : Bool) (ys : List Location) (t : Table) → length ys < t.count → false ≡ (isWhole && well_formed ys t)
+unfolding well_formed
+not_formed true ys t l = rw (lt-leb t.count (length ys) l) refl
+not_formed false ys t l = refl
+
 -- incoming rows
 pub ready_by_run : (ys : List Location) (first n e : ℕ) → n ≡ length ys → e ≡ 0 + run_of Stop.Append (take (n - 0) (drop 0 ys)) → ready_by e n first ≡ ready ys first
 unfolding ready_by ready
@@ -102,3 +110,7 @@ fetched_by isWhole ys t gate good n c e e₀ long e₁ e₂ = told (isWhole && w
     told : (b : Bool) → (isWhole && well_formed ys t) ≡ b → fetched good t (e - c) ≡ fetched (isWhole && well_formed ys t) t (run_of (Stop.Above gate) (drop t.count ys))
     told true z = rw e₀ (ap (fetched (isWhole && well_formed ys t) t) (run ∙ ap (λ (k : ℕ). run_of (Stop.Above gate) (drop k ys)) (at_count z)))
     told false z = rw (e₀, z) refl
+
+pub not_fetched : (isWhole : Bool) (ys : List Location) (t : Table) (gate : ℕ) → (isWhole && well_formed ys t) ≡ false → Err TableBroken ≡ fetch_in isWhole ys t gate
+unfolding fetched fetch_in
+not_fetched isWhole ys t gate z = rw z refl

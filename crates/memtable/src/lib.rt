@@ -2,7 +2,7 @@
 // fetch_entry_indexes_before. What looks at no list of rows is in location_rules.
 #![tactic(auto)]
 
-ghost use Rattle.std.specs.Prelude.{◌≡◌, ℕ, ◌+◌, ◌-◌, ◌≤◌, Bool, true, ◌&&◌, List, length, take, drop};
+ghost use Rattle.std.specs.Prelude.{◌≡◌, ℕ, ◌+◌, ◌-◌, Bool, true, ◌&&◌, List, length, take, drop, nat_le, if◌then◌else◌};
 ghost use Rattle.std.proofs.Math.Seq.{paste, paste-zero};
 ghost use Rattle.pipe_log.specs.declared.Location.{Location};
 ghost use Rattle.memtable.specs.Rows.{run_of};
@@ -36,12 +36,12 @@ pub trait Layout {
     fn is_whole(rows: &[Self::Cell]) -> bool
         ensures { result ≡ whole rows.now };
 
-    // Where the first row that stops the run stands, from lo on and before hi, or hi.
+    // Where the first row that stops the run stands, from lo on and before hi; where none does, hi, or the end of the rows where that comes
+    // first; where no row lies there, lo.
     fn scan(rows: &[Self::Cell], lo: usize, hi: usize, stop: Stop) -> usize
-        requires { (lo ≤ hi) × (hi ≤ length (located rows.now)) }
         ensures { result ≡ lo + run_of stop (take (hi - lo) (drop lo (located rows.now))) };
 
-    // Puts k incoming rows, those from `from` on, in the place of the rows from start on.
+    // Puts k incoming rows, those from `from` on, in the place of the rows from start on. Where there are fewer of either, no cell changes.
     fn replace(
         rows: &mut [Self::Cell],
         incoming: &[Self::Cell],
@@ -49,8 +49,9 @@ pub trait Layout {
         from: usize,
         k: usize,
     )
-        requires { (start + k ≤ length (located rows.old)) × (from + k ≤ length (located incoming.now)) }
-        ensures { rows.new ≡ put rows.old start incoming.now from k };
+        ensures { rows.new ≡ if nat_le (start + k) (length (located rows.old)) && nat_le (from + k) (length (located incoming.now))
+            then put rows.old start incoming.now from k
+            else rows.old };
 
     // Where no row is put, the cells are as they were.
     ghost put_none: { (rows incoming : List Self.Cell) (start from : ℕ) → rows ≡ put rows start incoming from 0 };
@@ -79,17 +80,24 @@ impl Layout for Records {
     }
 
     fn scan(rows: &[Location], lo: usize, hi: usize, stop: Stop) -> usize {
-        let first = rows[lo..hi]
+        let end = hi.min(rows.len());
+        if end <= lo {
+            return lo;
+        }
+        let first = rows[lo..end]
             .iter()
             .position(|row| location_rules::stops(*row, stop));
         match first {
             Some(i) => lo + i,
-            None => hi,
+            None => end,
         }
     }
 
     fn replace(rows: &mut [Location], incoming: &[Location], start: usize, from: usize, k: usize) {
-        rows[start..start + k].copy_from_slice(&incoming[from..from + k]);
+        let (n, m) = (rows.len(), incoming.len());
+        if start <= n && k <= n - start && from <= m && k <= m - from {
+            rows[start..start + k].copy_from_slice(&incoming[from..from + k]);
+        }
     }
 }
 
@@ -145,29 +153,39 @@ pub fn rewrite_in<L: Layout>(
 pub fn fetch_in<L: Layout>(rows: &[L::Cell], table: Table, gate: u64) -> Result<Fetched, Reason>
     ensures { result ≡ fetch_in (L.whole rows.now) (L.located rows.now) table gate }
 {
-    let good = is_well_formed::<L>(rows, table);
+    if !is_well_formed::<L>(rows, table) {
+        return Err(Reason::TableBroken);
+    }
     let n = L::count(rows);
     let start = table.count.min(n);
     let end = L::scan(rows, start, n, Stop::Above(gate));
-    location_rules::run_from(good, table, start, end)
+    location_rules::run_from(true, table, start, end)
 }
 
-// Whether each row is a location's, and the table is well formed.
+// Whether each row is a location's, and the table is well formed. A count behind the rows, or a row that is no location's, ends it.
 fn is_well_formed<L: Layout>(rows: &[L::Cell], table: Table) -> bool
     ensures { result ≡ (L.whole rows.now && well_formed (L.located rows.now) table) }
 {
     let n = L::count(rows);
-    let count = table.count.min(n);
-    let front = L::scan(rows, 0, count, Stop::Append);
-    let back = L::scan(rows, count, n, Stop::Rewrite);
-    L::is_whole(rows) && location_rules::is_formed(table, n, front, back)
+    if n < table.count {
+        return false;
+    }
+    if !L::is_whole(rows) {
+        return false;
+    }
+    let front = L::scan(rows, 0, table.count, Stop::Append);
+    let back = L::scan(rows, table.count, n, Stop::Rewrite);
+    location_rules::is_formed(table, n, front, back)
 }
 
 // Whether each incoming row is a location's, and they are taken.
 fn is_ready<L: Layout>(rows: &[L::Cell], first: u64) -> bool
     ensures { result ≡ (L.whole rows.now && ready (L.located rows.now) first) }
 {
+    if !L::is_whole(rows) {
+        return false;
+    }
     let n = L::count(rows);
     let wrong = L::scan(rows, 0, n, Stop::Append);
-    L::is_whole(rows) && location_rules::is_ready(wrong, n, first)
+    location_rules::is_ready(wrong, n, first)
 }

@@ -4,5 +4,5 @@ use mathlib.Core.Path.{sym, ◌∙◌}
 use Rattle.memtable.proofs.Surveys.{ready_by_run}
 use Rattle.memtable.proofs.is_ready.Goals as goal
 
-pub returns-then-is_whole : goal.returns-then-is_whole
-returns-then-is_whole g c = rw (sym c.is_whole.ensures ∙ c.if-is_whole.true) (c.is_ready.ensures ∙ ready_by_run _ _ _ _ c.count-n.ensures c.scan-wrong.ensures)
+pub returns : goal.returns
+returns g c = rw (sym c.is_whole.ensures ∙ c.if-not-is_whole.false) (c.is_ready.ensures ∙ ready_by_run _ _ _ _ c.count-n.ensures c.scan-wrong.ensures)

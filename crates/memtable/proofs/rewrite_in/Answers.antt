@@ -1,14 +1,8 @@
--- The overlap lies in the rows, the run lies in the rows and in the incoming ones, and the answer and the rows are those of the definition.
+-- The run lies in the rows and in the incoming ones, so that rows are put, and the answer and the rows are those of the definition.
 -- Assumes nothing.
 use Rattle.std.proofs.Common.{rules, sym, ◌∙◌}
-use Rattle.memtable.proofs.Rewrites.{over_fits, run_fits, answer_is, put_is}
+use Rattle.memtable.proofs.Rewrites.{answer_is, put_is}
 use Rattle.memtable.proofs.rewrite_in.Goals as goal
-
-pub scan-end-requires : goal.scan-end-requires
-scan-end-requires g c = over_fits _ c.args.table _ _ _ _ c.count.ensures c.count-2.ensures _ c.overlap_of-over.ensures
-
-pub replace-requires : goal.replace-requires
-replace-requires g c = run_fits _ _ _ _ _ _ c.count.ensures c.count-2.ensures _ c.overlap_of-over.ensures _ _ c.scan-end.ensures _ _ _ _ c.decide.ensures _ c.in_ok-answer.was
 
 pub returns-in_err-answer-clause-answer : goal.returns-in_err-answer-clause-answer
 returns-in_err-answer-clause-answer g c =
