@@ -20,5 +20,5 @@ entry_line κs a x y s t p q = (p.0 ∙ sym q.0, p.1 ∙ sym q.1)
 pub sums_line : OneAnswer 1 sums_kinds.ps sums_kinds.r sums_reads.Post (λ κs x y s t. (x ≡ y) × (s.1.1.1.0.now ≡ t.1.1.1.0.now))
 sums_line κs a x y s t p q = (p.0 ∙ sym q.0, p.1 ∙ sym q.1)
 
-pub refused_line : OneAnswer 1 refused_kinds.ps refused_kinds.r refused_reads.Post (λ κs x y s t. (x ≡ y) × (s.1.0.now ≡ t.1.0.now))
+pub refused_line : OneAnswer 1 refused_kinds.ps refused_kinds.r refused_reads.Post (λ κs x y s t. (x ≡ y) × (s.1.1.0.now ≡ t.1.1.0.now))
 refused_line κs a x y s t p q = (p.0 ∙ sym q.0, p.1 ∙ sym q.1)

@@ -3,8 +3,6 @@
 use Prim.Native.Nat.{ℕ}
 use mathlib.Core.Path.{◌≡◌, ap}
 use mathlib.Core.List.{List, [], ◌∷◌, ◌++◌, append_assoc}
-use Rattle.refusal.specs.declared.Refusal.{Refusal}
-use Rattle.refusal.specs.Number.{number_of}
 use Rattle.log_item.specs.declared.Command.{Command}
 use Rattle.log_item.specs.declared.Command.TheVariants.{Clean, Compact}
 use Rattle.log_item.specs.declared.Op.{Op}
@@ -75,10 +73,10 @@ behind_refused : (n i : ℕ) → decimal n ++ (space ∷ []) ++ decimal i ++ (li
 unfolding line
 behind_refused n i = simp append_assoc
 
-pub refused_same : (why : Refusal) {n : ℕ} {l m1 m2 r : List ℕ} → n ≡ number_of why.reason
+pub refused_same : (number item : ℕ) {n : ℕ} {l m1 m2 r : List ℕ} → n ≡ number
     → l ≡ []
     → m1 ≡ l ++ (refused ++ (space ∷ [])) ++ decimal n
-    → m2 ≡ m1 ++ (space ∷ []) ++ decimal why.item
-    → r ≡ m2 ++ (line_end ∷ []) → r ≡ refused_line why
+    → m2 ≡ m1 ++ (space ∷ []) ++ decimal item
+    → r ≡ m2 ++ (line_end ∷ []) → r ≡ refused_line number item
 unfolding refused_line line
-refused_same why e0 e1 e2 e3 e4 = rw (e4, e3, e2, e1, e0) (ap (λ (t : List ℕ). refused ++ (space ∷ t)) (behind_refused (number_of why.reason) why.item))
+refused_same number item e0 e1 e2 e3 e4 = rw (e4, e3, e2, e1, e0) (ap (λ (t : List ℕ). refused ++ (space ∷ t)) (behind_refused number item))

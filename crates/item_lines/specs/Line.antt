@@ -1,8 +1,6 @@
 -- The lines of the program itemlist: words with a space between two, and a line end.
 -- Assumes nothing.
 use Rattle.std.specs.Prelude.{ℕ, List, [], ◌∷◌, ◌++◌}
-use Rattle.refusal.specs.declared.Refusal.{Refusal}
-use Rattle.refusal.specs.Number.{number_of}
 use Rattle.log_item.specs.declared.Command.{Command}
 use Rattle.log_item.specs.declared.Command.TheVariants.{Clean, Compact}
 use Rattle.log_item.specs.declared.KeyValue.{KeyValue}
@@ -84,5 +82,5 @@ unfoldable pub sums_line : ℕ → ℕ → ℕ → List ℕ
 sums_line i e b = line items (decimal i ∷ entries ∷ decimal e ∷ bytes ∷ decimal b ∷ [])
 
 -- refused 15 0, number and item
-unfoldable pub refused_line : Refusal → List ℕ
-refused_line why = line refused (decimal (number_of why.reason) ∷ decimal why.item ∷ [])
+unfoldable pub refused_line : ℕ → ℕ → List ℕ
+refused_line number item = line refused (decimal number ∷ decimal item ∷ [])

@@ -11,7 +11,6 @@ ghost use Rattle.item_lines.specs.Line.{item_line, command_line, key_line, entry
 
 use line::Line;
 use log_item::{Command, EntryIndex, KeyValue, LogItem, LogItemContent, Op};
-use refusal::Refusal;
 
 // Puts the line of a command or a key; of entries nothing, since their lines are those of their rows.
 #[tactic(auto, unfolding(crate::specs::Line::content_line))]
@@ -90,13 +89,13 @@ pub fn sums_line(items: u64, entries: u64, bytes: u64, out: &mut [u8], at: usize
     line.put(out, at)
 }
 
-// Puts the line of a refusal, its number and item.
-pub fn refused_line(why: Refusal, out: &mut [u8], at: usize) -> Option<usize>
-    ensures { (result ≡ wrote_at out.old at (refused_line why)) × (out.new ≡ placed out.old at (refused_line why)) }
+// Puts the line of a refusal: a number, whichever it is, and an item.
+pub fn refused_line(number: u32, item: usize, out: &mut [u8], at: usize) -> Option<usize>
+    ensures { (result ≡ wrote_at out.old at (refused_line number item)) × (out.new ≡ placed out.old at (refused_line number item)) }
 {
     let mut line = Line::new();
-    line.field(b"refused ", u64::from(why.reason.number()));
-    line.field(b" ", why.item as u64);
+    line.field(b"refused ", u64::from(number));
+    line.field(b" ", item as u64);
     line.push(b"\n");
     line.put(out, at)
 }
