@@ -3,7 +3,7 @@
 //     items - N      the item count
 //     rows - N       the entry count
 //     length K N     the length in entry row K
-//     unread K N     what no writer looks at: index and place in entry row K, and the table's entry total, places and refusal
+//     unread K N     what no writer looks at: index and place in entry row K, and the table's entry total and places, and a refusal by 7
 //     first I N      the first index of item I, where it is of entries
 //     count I N      the entry count of item I, likewise
 //     place I N      where the key of item I stands, where it is a put or a delete

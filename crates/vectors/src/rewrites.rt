@@ -57,17 +57,10 @@ fn rewrite(rt: &impl Print, line: &[u8], call: &[u8], from: Memtable) -> io::Res
     let gate = gate(line::word(call, 1));
     let Memtable { rows, table } = from;
     let left = location_table::rewrite(rows, table, incoming, first, gate);
+    let done = location_rules::outcome(left.answer, table.count);
     start(rt, line, call)?;
-    let count = match left.answer {
-        Ok(r) => {
-            text::numbers(rt, &[0, r.replaced as u64, r.count as u64])?;
-            r.count
-        }
-        Err(reason) => {
-            text::numbers(rt, &[u64::from(reason.number()), 0, table.count as u64])?;
-            table.count
-        }
-    };
+    text::reason(rt, left.answer.err())?;
+    text::numbers(rt, &[done.replaced as u64, done.count as u64])?;
     let rows = left.rows;
     locations::show(rt, &rows.all[..rows.len.min(64)])?;
     text::end(rt)?;
@@ -75,7 +68,7 @@ fn rewrite(rt: &impl Print, line: &[u8], call: &[u8], from: Memtable) -> io::Res
         rows,
         table: Table {
             first: table.first,
-            count,
+            count: done.count,
         },
     })
 }
@@ -91,10 +84,9 @@ fn gate(word: &[u8]) -> Option<u64> {
 fn fetch(rt: &impl Print, line: &[u8], call: &[u8], from: Memtable) -> io::Result<()> {
     let gate = line::number(call, 1);
     let r = location_table::fetch_entry_indexes_before(from.rows, from.table, gate);
+    let run = location_rules::found(r);
     start(rt, line, call)?;
-    match r {
-        Ok(run) => text::numbers(rt, &[0, run.place as u64, run.len as u64])?,
-        Err(reason) => text::numbers(rt, &[u64::from(reason.number()), 0, 0])?,
-    }
+    text::reason(rt, r.err())?;
+    text::numbers(rt, &[run.place as u64, run.len as u64])?;
     text::end(rt)
 }

@@ -33,9 +33,15 @@ pub(crate) fn checksum(rt: &impl Print, sum: u32) -> io::Result<()> {
     print!(rt; " {sum:08x}")
 }
 
+// Four bytes go out at once, since each write is a call of the system.
 pub(crate) fn hex(rt: &impl Print, bytes: &[u8]) -> io::Result<()> {
     rt.write_all(b" ")?;
-    for b in bytes {
+    let (fours, rest) = bytes.as_chunks::<4>();
+    for &four in fours {
+        let word = u32::from_be_bytes(four);
+        print!(rt; "{word:08x}")?;
+    }
+    for b in rest {
         print!(rt; "{b:02x}")?;
     }
     Ok(())
