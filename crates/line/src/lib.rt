@@ -32,7 +32,7 @@ fn first(text: &[u8], b: u8) -> Option<usize>
 pub fn part(text: &[u8], start: usize, end: usize) -> &[u8]
     ensures { seen result ≡ between text.entry start end }
 {
-    let to = end.min(text.len());
+    let to = words::least(end, text.len());
     if to < start {
         return &text[..0];
     }
@@ -85,7 +85,7 @@ pub fn value(digits: &[u8]) -> u64
 {
     let mut n: u64 = 0;
     for &d in digits {
-        n = (n << 4) + u64::from(digit(d));
+        n = (n << 4) + words::wide(digit(d));
     }
     n
 }
