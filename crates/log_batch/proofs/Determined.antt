@@ -27,6 +27,8 @@ use Rattle.log_batch.proofs.LogItemBatch.encode_unchecked.Kinds as encode_unchec
 use Rattle.log_batch.proofs.LogItemBatch.encode_unchecked.Reads as encode_unchecked_log_item_batch_reads
 use Rattle.log_batch.proofs.AtomicGroupStatus.parse.Kinds as parse_kinds
 use Rattle.log_batch.proofs.AtomicGroupStatus.parse.Reads as parse_reads
+use Rattle.log_batch.proofs.status.AtomicGroupStatusTryFromU8.try_from.Kinds as try_from_kinds
+use Rattle.log_batch.proofs.status.AtomicGroupStatusTryFromU8.try_from.Reads as try_from_reads
 use Rattle.log_batch.proofs.view.check_entry.Kinds as check_entry_kinds
 use Rattle.log_batch.proofs.view.check_entry.Reads as check_entry_reads
 use Rattle.log_batch.proofs.view.entry_view.Kinds as entry_view_kinds
@@ -122,3 +124,6 @@ encode_log_batch κs a x y s t p q = batch_once p q
 
 pub encode_unchecked_log_batch : OneAnswer 4 encode_unchecked_log_batch_kinds.ps encode_unchecked_log_batch_kinds.r encode_unchecked_log_batch_reads.Post (λ κs x y s t. (x ≡ y) × (s.1.1.1.1.0.now ≡ t.1.1.1.1.0.now))
 encode_unchecked_log_batch κs a x y s t p q = batch_once p q
+
+pub try_from : OneAnswer 0 try_from_kinds.ps try_from_kinds.r try_from_reads.Post (λ κs x y s t. x ≡ y)
+try_from κs a x y s t p q = p ∙ sym q

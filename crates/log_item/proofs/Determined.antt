@@ -35,6 +35,8 @@ use Rattle.log_item.proofs.LogItem.measure.Kinds as measure_kinds
 use Rattle.log_item.proofs.LogItem.measure.Reads as measure_reads
 use Rattle.log_item.proofs.LogItem.encode.Kinds as encode_kinds
 use Rattle.log_item.proofs.LogItem.encode.Reads as encode_reads
+use Rattle.log_item.proofs.pass.NotPassedFromReason.from.Kinds as from_kinds
+use Rattle.log_item.proofs.pass.NotPassedFromReason.from.Reads as from_reads
 
 -- An answer says in the words of the definitions all that it says.
 abbrev answer : {A : Type 0} → Got A → Result (Piece A) Reason
@@ -89,3 +91,6 @@ encode_entry_indexes κs a x y s t p q = (p.answer ∙ sym q.answer, p.written �
 
 pub encode_log_item : OneAnswer 3 encode_kinds.ps encode_kinds.r encode_reads.Post (λ κs x y s t. (x ≡ y) × (s.1.1.1.1.0.now ≡ t.1.1.1.1.0.now))
 encode_log_item κs a x y s t p q = (p.answer ∙ sym q.answer, p.written ∙ sym q.written)
+
+pub from : OneAnswer 0 from_kinds.ps from_kinds.r from_reads.Post (λ κs x y s t. x ≡ y)
+from κs a x y s t p q = p ∙ sym q

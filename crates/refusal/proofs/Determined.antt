@@ -4,6 +4,11 @@ use mathlib.Core.Path.{◌≡◌, sym, ◌∙◌}
 use Rattle.one_answer.specs.OneAnswer.{OneAnswer}
 use Rattle.refusal.proofs.Reason.number.Kinds as number_kinds
 use Rattle.refusal.proofs.Reason.number.Reads as number_reads
+use Rattle.refusal.proofs.RefusalFromReason.from.Kinds as from_kinds
+use Rattle.refusal.proofs.RefusalFromReason.from.Reads as from_reads
 
 pub number : OneAnswer 0 number_kinds.ps number_kinds.r number_reads.Post (λ κs x y s t. x ≡ y)
 number κs a x y s t p q = p ∙ sym q
+
+pub from : OneAnswer 0 from_kinds.ps from_kinds.r from_reads.Post (λ κs x y s t. x ≡ y)
+from κs a x y s t p q = p ∙ sym q
