@@ -31,6 +31,10 @@ index_17 : (n i : ℕ) → i ≤ 18446744073709551615 → 18446744073709551616 <
 index_17 zero i h l = absurd (omega arith)
 index_17 (suc n) i h l = rw (lt-leb (i + n) 18446744073709551615 (omega arith))
 
+index_fine : (n i : ℕ) → i + n ≤ 18446744073709551616 → fine ≡ index_refusal n i
+index_fine zero i l = refl
+index_fine (suc n) i l = rw (le-leb (i + n) 18446744073709551615 (omega arith))
+
 index_allowed : (n i : ℕ) → index_refusal n i ≡ fine → i ≤ 18446744073709551616 → i + n ≤ 18446744073709551616
 index_allowed zero i e h = omega arith
 index_allowed (suc n) i e h = omega (arith, leb-true (i + n) 18446744073709551615 (passed (leb (i + n) 18446744073709551615) _ e).0)
@@ -48,6 +52,11 @@ module _ (used rows : ℕ) (e : EntryIndexes) where
       → 18446744073709551616 < e.first_index + e.count → Err IndexTooLarge ≡ entries_refusal used rows e
   unfolding entries_refusal
   entries_17 h k b l = rw (le-leb (used + e.count) 1024 h, le-leb e.count (rows - used) k) (index_17 e.count e.first_index b l)
+
+  -- Entries within the three limits are not refused.
+  pub entries_fine : used + e.count ≤ 1024 → e.count ≤ rows - used → e.first_index + e.count ≤ 18446744073709551616 → fine ≡ entries_refusal used rows e
+  unfolding entries_refusal
+  entries_fine h k l = rw (le-leb (used + e.count) 1024 h, le-leb e.count (rows - used) k) (index_fine e.count e.first_index l)
 
 module _ (s : List ℕ) (key : Span) (op : Op) where
   pub key_outside : inside s key ≡ false → false ≡ op_inside s key op
