@@ -13,6 +13,7 @@ use lib.ListN.{length, drop, length-append, length-drop}
 use lib.Pow.{pow_pos}
 use lib.Seq.{drop-drop, drop-append_seam}
 use Rattle.words.specs.Byte.{Bytes}
+use Rattle.refusal.specs.declared.Reason.{Reason}
 use Rattle.refusal.specs.declared.Reason.TheVariants.{NumberBroken}
 use Rattle.words.specs.Got.{got, refused}
 use Rattle.words.specs.Place.{Found}
@@ -20,6 +21,7 @@ use Rattle.words.proofs.Bytes.{as_long}
 use Rattle.std.specs.Prelude.{Ok, Err}
 use Rattle.words.specs.Word.{piece}
 use Rattle.codec.specs.Spelling.{SpellsNumber}
+use Rattle.codec.specs.declared.NumberError.TheVariants.{Eof, Overflow}
 use Rattle.codec.specs.Number.{NumberRead, read_number, read_from, number_got}
 use Rattle.codec.specs.Shortest.{shortest, stated_length}
 use Rattle.codec.proofs.Spelled.{same_piece, as_number, read_groups, read_head, groups_pos}
@@ -45,7 +47,7 @@ pub number_told : (s : List ℕ) (at : ℕ) → ((n next : ℕ) → (number_got 
     × ((number_got (read_number s at) ≡ refused NumberBroken) ↔ ((n next : ℕ) → Found s (SpellsNumber n) at next → ⊥))
 number_told s at = (λ n next. (λ e. (read_iff_stands s at n next).0 (done (read_number s at) e), λ h. rw ((read_iff_stands s at n next).1 h)), (λ e n next h. clash (sym e ∙ ap number_got ((read_iff_stands s at n next).1 h)), λ none. other (read_number s at) λ n next e. none n next ((read_iff_stands s at n next).0 e)))
   where
-    clash : {n next : ℕ} → refused NumberBroken ≡ got n next → ⊥
+    clash : {r : Reason} {n next : ℕ} → refused r ≡ got n next → ⊥
     clash e = let z : ◌≡◌ {A = ℕ} 0 1 = cc in omega arith
 
     done : (r : NumberRead) {n next : ℕ} → number_got r ≡ got n next → r ≡ Ok (piece n next)
@@ -53,11 +55,13 @@ number_told s at = (λ n next. (λ e. (read_iff_stands s at n next).0 (done (rea
         let v : r.value ≡ n = cc in
         let q : r.next ≡ next = cc in
         rw (← v, ← q)
-    done (Err r) e = absurd (clash e)
+    done (Err Eof) e = absurd (clash e)
+    done (Err Overflow) e = absurd (clash e)
 
     other : (r : NumberRead) → ((n next : ℕ) → r ≡ Ok (piece n next) → ⊥) → number_got r ≡ refused NumberBroken
     other (Ok r) f = absurd (f r.value r.next refl)
-    other (Err r) f = refl
+    other (Err Eof) f = refl
+    other (Err Overflow) f = refl
 
 -- Of two spellings that begin the same bytes, number and bytes are equal.
 pub one_spelling : {n m : ℕ} {bs cs : List ℕ} (r t : List ℕ) → SpellsNumber n bs → SpellsNumber m cs → bs ++ r ≡ cs ++ t → (n ≡ m) × (bs ≡ cs)
