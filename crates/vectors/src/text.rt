@@ -38,13 +38,37 @@ pub(crate) fn hex(rt: &impl Print, bytes: &[u8]) -> io::Result<()> {
     rt.write_all(b" ")?;
     let (fours, rest) = bytes.as_chunks::<4>();
     for &four in fours {
-        let word = u32::from_be_bytes(four);
-        print!(rt; "{word:08x}")?;
+        let [a, b, c, d] = four;
+        let digits = [
+            high(a),
+            low(a),
+            high(b),
+            low(b),
+            high(c),
+            low(c),
+            high(d),
+            low(d),
+        ];
+        rt.write_all(&digits)?;
     }
-    for b in rest {
-        print!(rt; "{b:02x}")?;
+    for &b in rest {
+        rt.write_all(&[high(b), low(b)])?;
     }
     Ok(())
+}
+
+// The digits of a byte; a format would take half as long again.
+fn high(b: u8) -> u8 {
+    digit(b / 16)
+}
+
+fn low(b: u8) -> u8 {
+    digit(b % 16)
+}
+
+// The digit of a value below 16.
+fn digit(n: u8) -> u8 {
+    if n < 10 { b'0' + n } else { b'a' + n % 16 - 10 }
 }
 
 // The same, with `-` for none.
