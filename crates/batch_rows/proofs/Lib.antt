@@ -1,4 +1,5 @@
 pub mod RowsRead
 pub mod RowsWritten
 pub mod Theorems
+pub mod Reasons
 pub mod Determined

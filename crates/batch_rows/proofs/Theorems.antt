@@ -26,6 +26,7 @@ use Rattle.log_batch.specs.Written.{BatchWritten}
 use Rattle.log_batch.proofs.Theorems.{body_under_another, batch_under_another}
 use Rattle.batch_rows.proofs.RowsWritten.{rows_own}
 use Rattle.refusal.specs.declared.Reason.TheVariants.{ChecksumWrong}
+use Rattle.refusal.specs.Number.{refusal_of}
 
 -- ---- the numbers of lent rows are words
 
@@ -81,7 +82,7 @@ module _ (items entries s : List ℕ) (checked : Bool) (word : (i : ℕ) → get
 
   pub batch_rows_second_signature : {count : ℕ} {content : List ℕ} → (n ≡ 0 → ⊥) → Bytes content
       → BatchWritten (measure_rows s checked items entries) count content (rows_bytes s items entries signature) out (Ok n) later
-      → (read_batch later b ≡ empty_table (Some (record { reason = ChecksumWrong; item = 0 }))) ↔ (signature ≡ b → ⊥)
+      → (read_batch later b ≡ empty_table (Some (refusal_of ChecksumWrong 0))) ↔ (signature ≡ b → ⊥)
   batch_rows_second_signature h bytes w =
       batch_under_another s checked (row_items items) (entry_lengths entries) (rows_all_small items word) store signature b key
       (rows_own s checked items entries) h bytes w

@@ -15,6 +15,7 @@ use Rattle.log_batch.proofs.Listing.{sound_items}
 use Rattle.item_reader.specs.Cursor.{place_of, after_count, at_first, started}
 use Rattle.refusal.specs.declared.Reason.{Reason}
 use Rattle.refusal.specs.declared.Reason.TheVariants.{ItemsTooMany}
+use Rattle.refusal.specs.Number.{refusal_of}
 
 module _ {xs : List LogItem} {rows : List EntryIndex} {u q : ℕ} where
   -- The items that are read stand after the count, and are as many as it says.
@@ -46,6 +47,6 @@ unfolding started
 opening_good body signature e = rw e
 
 pub opening_bad : (body : List ℕ) (signature : ℕ) {r : Reason} {i : ℕ} → read_body body signature ≡ rejected r i
-    → started body signature ≡ at_first 0 0 (Some (record { reason = r; item = i }))
+    → started body signature ≡ at_first 0 0 (Some (refusal_of r i))
 unfolding started
 opening_bad body signature e = rw e

@@ -2,6 +2,7 @@
 -- Assumes nothing.
 use Rattle.std.proofs.Common.{◌≡◌, ℕ, zero, suc, ◌<◌, ◌≤◌, List, Some, None, Ok, Err, length, get_or, take, refl, ap, ◌∙◌, zero-add, arith, Bor}
 use Rattle.refusal.specs.declared.Reason.{Reason}
+use Rattle.refusal.specs.Number.{refusal_of}
 use Rattle.log_item.specs.declared.Span.{Span}
 use Rattle.log_item.specs.declared.LogItem.{LogItem}
 use Rattle.log_item.specs.declared.EntryIndex.{EntryIndex}
@@ -33,10 +34,10 @@ module _ (body : Bor (List ℕ)) (signature : ℕ) where
 
   -- Or none and the same refusal, at every call.
   pub same_refusal : {r : Reason} {i : ℕ} → read_body body.now signature ≡ rejected r i → (k : ℕ)
-      → nth_of (opened body signature) k ≡ Err (record { reason = r; item = i })
+      → nth_of (opened body signature) k ≡ Err (refusal_of r i)
   same_refusal {r} {i} e k =
       rw (opening_bad body.now signature e)
-      (through.at_refusal (reader_at body (at_first 0 0 (Some (record { reason = r; item = i })))) refl k)
+      (through.at_refusal (reader_at body (at_first 0 0 (Some (refusal_of r i)))) refl k)
 
   -- The items and rows are those of the table that the plain reading fills.
   pub same_table : (place block : Span) {xs : List LogItem} {rows : List EntryIndex} {u q : ℕ} → read_body body.now signature ≡ accepted xs rows u q
@@ -82,5 +83,5 @@ module _ (body : Bor (List ℕ)) (signature : ℕ) where
 
   -- Or, at every step, the same refusal.
   pub cursor_refusal : {r : Reason} {i : ℕ} → read_body body.now signature ≡ rejected r i → (k : ℕ)
-      → nth_step body.now (started body.now signature) k ≡ Err (record { reason = r; item = i })
+      → nth_step body.now (started body.now signature) k ≡ Err (refusal_of r i)
   cursor_refusal e k = same_steps body signature k ∙ same_refusal body signature e k

@@ -2,6 +2,7 @@
 -- Assumes nothing.
 use Rattle.std.specs.Prelude.{ℕ, zero, suc, List, length, Option, Some, None, Result}
 use Rattle.refusal.specs.declared.Refusal.{Refusal}
+use Rattle.refusal.specs.Number.{refusal_of}
 use Rattle.log_item.specs.Got.{Got, got, refused}
 use Rattle.log_item.specs.Pieces.{number}
 use Rattle.log_item.specs.declared.Form.TheVariants.{Any}
@@ -28,7 +29,7 @@ at_first place count refusal = record { at = place; total = 0; used = 0; item = 
 -- what the plain reading of a body finds: its items from the place p on, or its refusal
 abbrev pub start_by : ℕ → Answer → Cursor
 start_by p (accepted xs rows u q) = at_first p (length xs) None
-start_by p (rejected r i) = at_first 0 0 (Some (record { reason = r; item = i }))
+start_by p (rejected r i) = at_first 0 0 (Some (refusal_of r i))
 
 -- a cursor started on a body under a signature
 unfoldable pub started : List ℕ → ℕ → Cursor

@@ -2,6 +2,7 @@
 -- Assumes nothing.
 use Rattle.std.specs.Prelude.{ℕ, ◌+◌, cond, List, nat_lt, Option, Some, None, Result, Ok, Err}
 use Rattle.refusal.specs.declared.Refusal.{Refusal}
+use Rattle.refusal.specs.Number.{refusal_of}
 use Rattle.log_item.specs.Got.{Got, got, refused}
 use Rattle.log_item.specs.Entries.{entries_of}
 use Rattle.log_item.specs.Answers.{counted_item}
@@ -31,7 +32,7 @@ stayed c answer = record { cursor = c; answer = answer }
 abbrev pub step_over : Cursor → Got ItemRead → Stepped
 step_over c (got x q) =
     record { cursor = record c { at = q; total = x.total; used = x.used; item = c.item + 1 }; answer = Ok (Some (found_at x.item x.tails c.total)) }
-step_over c (refused r) = stayed c (Err (record { reason = r; item = c.item }))
+step_over c (refused r) = stayed c (Err (refusal_of r c.item))
 
 -- the body's refusal where it has one
 abbrev pub unless_refused : Option Refusal → Cursor → Stepped → Stepped

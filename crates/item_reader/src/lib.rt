@@ -128,10 +128,7 @@ impl Cursor {
                     answer: Ok(Some(found)),
                 }
             }
-            Err(reason) => self.stay(Err(Refusal {
-                reason,
-                item: self.item,
-            })),
+            Err(reason) => self.stay(Err(Refusal::new(reason, self.item))),
         }
     }
 

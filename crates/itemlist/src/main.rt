@@ -34,12 +34,9 @@ fn list(rt: &impl Print, table: LogItemBatch) -> io::Result<()> {
     let mut space = [0u8; 65_536];
     let out: &mut [u8] = &mut space;
     let end = match table.refusal {
-        Some(why) => {
-            let number = why.reason.number();
-            put(rt, out, 0, |out, at| {
-                item_lines::refused_line(number, why.item, out, at)
-            })?
-        }
+        Some(why) => put(rt, out, 0, |out, at| {
+            item_lines::refused_line(why.number, why.item, out, at)
+        })?,
         None => {
             let items = table.item_count as u64;
             let entries = table.entry_count as u64;

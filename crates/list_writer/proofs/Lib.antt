@@ -6,4 +6,5 @@ pub mod Pieces
 pub mod Writing
 pub mod Bodies
 pub mod Tables
+pub mod Reasons
 pub mod Determined

@@ -14,6 +14,7 @@ use Rattle.refusal.specs.First.{◌>>=◌, Checked, fine}
 use Rattle.refusal.specs.declared.Reason.{Reason}
 use Rattle.refusal.specs.declared.Reason.TheVariants.{ItemsTooMany, TailTooLarge}
 use Rattle.refusal.specs.declared.Refusal.{Refusal}
+use Rattle.refusal.specs.Number.{refusal_of}
 use Rattle.log_item.specs.declared.LogItem.{LogItem}
 use Rattle.log_item.specs.Blank.{blank_item}
 use Rattle.log_item.specs.Written.{measure_item}
@@ -126,10 +127,10 @@ module _ (s : List ℕ) (checked : Bool) (rows : List Row) (ns : List ℕ) where
           go : (v : Result HeadSize Reason) → measure_item s checked j count x ≡ v → at_item i v ≡ Err r → Err r ≡ rows_measure s checked rows ns
           go (Ok g) q w = cc
           go (Err n) q w =
-              let same : ◌≡◌ {A = Refusal} (record { reason = n; item = i }) r = cc in
+              let same : ◌≡◌ {A = Refusal} (refusal_of n i) r = cc in
               rw (← same) (refused_there n i (measuring_item_refused s checked (items_before rows) ns m x all z p.0 p.1 q))
       rows_refused (Err n) {r} all z h e f =
-          let same : ◌≡◌ {A = Refusal} (record { reason = n; item = i }) r = cc in
+          let same : ◌≡◌ {A = Refusal} (refusal_of n i) r = cc in
           let p = none_there rows i n e h m.most in
           let ends : length (items_before rows) ≤ i = omega (arith, p.0) in
           rw (← same) (ap (λ (k : ℕ). refused n k) (sym p.0) ∙ refused_behind n t (told_all s checked (items_before rows) ns m z ends) p.1)
@@ -165,4 +166,4 @@ module _ (s : List ℕ) (checked : Bool) (rows : List Row) (ns : List ℕ) where
       b : row_behind rows ≡ fine
       b =
           go (leb (length rows) 256) (items_verdict s checked (items_before rows) ns 0 0 0) (row_behind rows) (length (list_bytes s (items_before rows) ns))
-          (length (items_before rows)) (record { reason = ItemsTooMany; item = 0 }) e
+          (length (items_before rows)) (refusal_of ItemsTooMany 0) e

@@ -5,6 +5,7 @@ use Rattle.refusal.specs.First.{◌else◌, ◌>>◌, ◌>>=◌}
 use Rattle.refusal.specs.declared.Reason.{Reason}
 use Rattle.refusal.specs.declared.Reason.TheVariants.{ItemsTooMany}
 use Rattle.refusal.specs.declared.Refusal.{Refusal}
+use Rattle.refusal.specs.Number.{refusal_of}
 use Rattle.log_item.specs.Entries.{entries_of}
 use Rattle.log_item.specs.declared.LogItem.{LogItem}
 use Rattle.log_item.specs.Refusing.{content_refusal}
@@ -12,7 +13,7 @@ use Rattle.log_item.specs.Written.{sum_of, row_lengths, tail_refusal}
 
 -- a reason and its item
 abbrev pub refused : {A : Type 0} → Reason → ℕ → Result A Refusal
-refused r k = Err (record { reason = r; item = k })
+refused r k = Err (refusal_of r k)
 
 -- what item k answers, and where it is refused that it is this one
 abbrev pub at_item : {A : Type 0} → ℕ → Result A Reason → Result A Refusal

@@ -21,22 +21,6 @@ pub const BODY_LEN_MAX: usize = 4294967295;
 
 const FOOTER_LEN: usize = 4;
 
-// Why a list is refused as a whole: its items are too many, or its bytes, or there is no room for them.
-const MANY: Refusal = Refusal {
-    reason: Reason::ItemsTooMany,
-    item: 0,
-};
-
-const TOO_LONG: Refusal = Refusal {
-    reason: Reason::OutputTooLong,
-    item: 0,
-};
-
-const NO_ROOM: Refusal = Refusal {
-    reason: Reason::OutputShort,
-    item: 0,
-};
-
 // The length of a body, footer included, and the sum of its entry lengths.
 #[derive(Clone, Copy, Debug, PartialEq, Eq)]
 pub struct Measured {
@@ -57,7 +41,7 @@ pub fn measure(
     ensures { result ≡ measure_of store.now checked (items_of items item_count) (lengths_of entries entry_count) }
 {
     if 256 < item_count {
-        return Err(MANY);
+        return Err(Refusal::from(Reason::ItemsTooMany));
     }
     let rows = &entries[..entry_count.min(1024)];
     measure_list(&items[..item_count], rows, store, checked)
@@ -73,7 +57,7 @@ pub fn measure_list<I: ItemRow, E: EntryRow>(
     ensures { result ≡ rows_measure store.now checked (map I.spelled items.now) (map E.length entries.now) }
 {
     if 256 < items.len() {
-        return Err(MANY);
+        return Err(Refusal::from(Reason::ItemsTooMany));
     }
     let mut size = codec::var_u64_len(items.len() as u64);
     let mut used: usize = 0;
@@ -84,10 +68,7 @@ pub fn measure_list<I: ItemRow, E: EntryRow>(
         for entry in &entries[used..used + head.count] {
             let len = entry.entry_len();
             if u64::from(u32::MAX - total) < len {
-                return Err(Refusal {
-                    reason: Reason::TailTooLarge,
-                    item: i,
-                });
+                return Err(Refusal::new(Reason::TailTooLarge, i));
             }
             total += len as u32;
             size += codec::var_u64_len(u64::from(total));
@@ -111,7 +92,7 @@ fn measure_row<I: ItemRow>(
     let head = row
         .item()
         .and_then(|item| item.measure(store, checked, used, rows));
-    head.map_err(|reason| Refusal { reason, item: i })
+    head.map_err(|reason| Refusal::new(reason, i))
 }
 
 // What is answered for a list of so many bytes that is not refused: 22, or its length with the footer.
@@ -120,7 +101,7 @@ pub fn finish(size: usize, total: u32) -> Result<Measured, Refusal>
     ensures { result ≡ measured_of (Ok total) size }
 {
     if BODY_LEN_MAX - FOOTER_LEN < size {
-        return Err(TOO_LONG);
+        return Err(Refusal::from(Reason::OutputTooLong));
     }
     Ok(Measured {
         length: size + FOOTER_LEN,
@@ -143,7 +124,7 @@ pub fn encode(
     ensures { MeasuredWritten (measure_of store.now checked (items_of items item_count) (lengths_of entries entry_count)) (body_bytes store.now (items_of items item_count) (lengths_of entries entry_count) signature) out.old at result out.new }
 {
     if 256 < item_count {
-        return Err(MANY);
+        return Err(Refusal::from(Reason::ItemsTooMany));
     }
     let rows = &entries[..entry_count.min(1024)];
     encode_list(
@@ -200,7 +181,7 @@ pub fn placing(m: Result<Measured, Refusal>, all: usize, at: usize) -> Result<us
         return Ok(0);
     }
     if all < at || all - at < m.length {
-        return Err(NO_ROOM);
+        return Err(Refusal::from(Reason::OutputShort));
     }
     Ok(m.length)
 }

@@ -14,6 +14,7 @@ use Rattle.log_item.specs.declared.Passed.{Passed}
 use Rattle.refusal.specs.declared.Reason.{Reason}
 use Rattle.refusal.specs.declared.Reason.TheVariants.{ItemsTooMany, NotShortest}
 use Rattle.refusal.specs.declared.Refusal.{Refusal}
+use Rattle.refusal.specs.Number.{refusal_of}
 use Rattle.log_item.specs.declared.Form.{Form}
 use Rattle.log_item.specs.declared.LogItem.{LogItem}
 use Rattle.log_item.specs.declared.EntryIndex.{EntryIndex}
@@ -65,7 +66,7 @@ passed_told (refused r) e = cc
 -- what a body holds, where i items with e entries stand before those of the answer
 abbrev pub held_after : ℕ → ℕ → Answer → Result BodyCheck Refusal
 held_after i e (accepted xs rows u q) = Ok (record { items = i + length xs; entries = e + length rows; total = u; next = q })
-held_after i e (rejected r k) = Err (record { reason = r; item = k })
+held_after i e (rejected r k) = Err (refusal_of r k)
 
 -- the same of numbers
 abbrev holding : ℕ → ℕ → ℕ → ℕ → Result BodyCheck Refusal
@@ -91,7 +92,7 @@ module _ (form : Form) (s : List ℕ) where
   -- what a body holds where i items and one that was gone over stand before k others
   abbrev held_past : ℕ → ℕ → Got Passed → Result BodyCheck Refusal
   held_past k i (got r q) = held_after (i + 1) r.used (items form s k (i + 1) r.used r.total q)
-  held_past k i (refused r) = Err (record { reason = r; item = i })
+  held_past k i (refused r) = Err (refusal_of r i)
 
   held_past_lem : (k i e t p : ℕ) → held_past k i (pass_item form s e t p) ≡ held_after i e (items form s (suc k) i e t p)
   unfolding items
@@ -117,7 +118,7 @@ module _ (form : Form) (s : List ℕ) where
       pub left_next : {x : Piece Passed} → Ok x ≡ passed_of (pass_item form s used total at) → ItemsLeft count start (i + 1) x.next x.value.total x.value.used
       left_next h = record { few = omega arith; comes = past (passed_told _ h) }
 
-      pub left_refused : {e : NotPassed} → Err e ≡ passed_of (pass_item form s used total at) → Err (record { reason = reason_of e; item = i }) ≡ check_of (items form s count 0 0 0 start)
+      pub left_refused : {e : NotPassed} → Err e ≡ passed_of (pass_item form s used total at) → Err (refusal_of (reason_of e) i) ≡ check_of (items form s count 0 0 0 start)
       left_refused h = past (refused_told _ h)
 
     pub left_end : count ≤ i → Ok (record { items = count; entries = used; total = total; next = at }) ≡ check_of (items form s count 0 0 0 start)
@@ -141,9 +142,9 @@ acceptance_told {x} (accepted xs rows v z) e =
     rw same (xs, rows, refl, refl, refl)
 acceptance_told (rejected r i) e = cc
 
-pub refusal_told : {x : Refusal} (a : Answer) → Err x ≡ check_of a → a ≡ rejected x.reason x.item
+pub refusal_told : {x : Refusal} (a : Answer) → Err x ≡ check_of a → (r : Reason) × (x ≡ refusal_of r x.item) × (a ≡ rejected r x.item)
 refusal_told (accepted xs rows u q) e = cc
-refusal_told {x} (rejected r i) e = let f : x ≡ record { reason = r; item = i } = cc in rw f
+refusal_told {x} (rejected r i) e = let f : x ≡ refusal_of r i = cc in rw f (r, refl, refl)
 
 -- An accepted body has its footer.
 pub accepted_long : (body : List ℕ) (signature : ℕ) {x : BodyCheck} → Ok x ≡ check_of (read_body body signature) → 4 < length body

@@ -6,6 +6,7 @@ use Rattle.refusal.specs.First.{Checked, fine}
 use Rattle.refusal.specs.declared.Reason.{Reason}
 use Rattle.refusal.specs.declared.Reason.TheVariants.{BatchShort, BlockDiffers, Compressed, CompressionUnknown, HeaderShort, OffsetAboveLength, OffsetBelowHeader}
 use Rattle.refusal.specs.declared.Refusal.{Refusal}
+use Rattle.refusal.specs.Number.{refusal_of}
 use Rattle.words.specs.Word.{big_endian}
 use Rattle.log_item.specs.Got.{got, refused}
 use Rattle.log_item.specs.declared.Span.{Span}
@@ -110,7 +111,7 @@ passing_holds (Err r) p = refuses
 -- ---- the table
 
 pub table_refused : (s : List ℕ) (signature : ℕ) {r : Reason} {x : Refusal} {t : LogItemBatch} → front_batch s 0 ≡ refused r
-    → t ≡ empty_table (Some x) → x ≡ record { reason = r; item = 0 } → t ≡ read_batch s signature
+    → t ≡ empty_table (Some x) → x ≡ refusal_of r 0 → t ≡ read_batch s signature
 unfolding read_batch table_of
 table_refused s signature e f h = rw (e, ← h) f
 
@@ -145,7 +146,7 @@ module _ (body block : Span) (n : ℕ) where
 
   -- Another total is a 20.
   held_other : (k l : Span) (a : Answer) {t x : LogItemBatch} {y : Refusal} → t ≡ table_of k l a → false ≡ is_some t.refusal → (t.total ≡ n → ⊥)
-      → x ≡ empty_table (Some y) → y ≡ record { reason = BlockDiffers; item = 0 } → x ≡ table_of body block (agreeing (Some n) a)
+      → x ≡ empty_table (Some y) → y ≡ refusal_of BlockDiffers 0 → x ≡ table_of body block (agreeing (Some n) a)
   unfolding table_of
   held_other k l (accepted xs rows u q) e none other f h =
       let o : u ≡ n → ⊥ = λ z. other (ap (λ (y : LogItemBatch). y.total) e ∙ z) in
@@ -167,7 +168,7 @@ module _ (s : List ℕ) (signature : ℕ) {h : LogBatch} {q : ℕ} (e : front_ba
   table_stays some = held_refused _ _ _ k l (read_body (body_of h s) signature) read some ∙ sym (table_of_lem s signature e)
 
   module _ (none : false ≡ is_some t.refusal) {n : ℕ} (size : n ≡ h.offset - 16 - 4) where
-    pub table_differs : {x : LogItemBatch} {y : Refusal} → (t.total ≡ n → ⊥) → x ≡ empty_table (Some y) → y ≡ record { reason = BlockDiffers; item = 0 }
+    pub table_differs : {x : LogItemBatch} {y : Refusal} → (t.total ≡ n → ⊥) → x ≡ empty_table (Some y) → y ≡ refusal_of BlockDiffers 0
         → x ≡ read_batch s signature
     table_differs other f places =
         let o : t.total ≡ h.offset - 16 - 4 → ⊥ = λ z. other (z ∙ sym size) in

@@ -22,5 +22,6 @@ pub mod Marks
 pub mod Views
 pub mod Whole
 pub mod OneReading
+pub mod Reasons
 pub mod Theorems
 pub mod Determined

@@ -5,6 +5,7 @@ use borrow.Author.Tests.{not-true}
 use Rattle.refusal.specs.First.{fine}
 use Rattle.refusal.specs.declared.Reason.TheVariants.{OutputShort}
 use Rattle.refusal.specs.declared.Refusal.{Refusal}
+use Rattle.refusal.specs.Number.{refusal_of}
 use Rattle.log_item.specs.Entries.{entries_of}
 use Rattle.log_item.specs.declared.LogItem.{LogItem}
 use Rattle.log_item.specs.Refusing.{content_refusal}
@@ -56,7 +57,7 @@ module _ (s : List ℕ) (checked : Bool) (xs : List LogItem) (ns : List ℕ) (si
           let whole = body_length signature (accepted s checked xs ns m (sym e)) in
           let fit : at + length (body_bytes s xs ns signature) ≤ length out = omega (arith, leb-true (at + m.length) (length out) h) in
           writes (rw whole k) f.told (w.written ∙ (rw (k, ne_eqb m.length 0 some, le-leb _ (length out) fit)))
-      room m e false h = left {x = record { reason = OutputShort; item = 0 }} (w.answer ∙ (rw (e, ne_eqb m.length 0 (some_of m e), h)))
+      room m e false h = left {x = refusal_of OutputShort 0} (w.answer ∙ (rw (e, ne_eqb m.length 0 (some_of m e), h)))
 
       go : (m : Result Measured Refusal) → measure_of s checked xs ns ≡ m → Encodes r later
       go (Ok m) e = room m e (leb (at + m.length) (length out)) refl

@@ -4,6 +4,7 @@ use Rattle.std.proofs.Common.{◌≡◌, ℕ, ◌≤◌, List, take, Option, Som
 use Rattle.refusal.specs.declared.Reason.{Reason}
 use lib.Seq.{take-append_seam}
 use Rattle.refusal.specs.declared.Refusal.{Refusal}
+use Rattle.refusal.specs.Number.{refusal_of}
 use Rattle.log_item.specs.declared.Span.{Span}
 use Rattle.log_item.specs.declared.LogItem.{LogItem}
 use Rattle.log_item.specs.declared.EntryIndex.{EntryIndex}
@@ -34,7 +35,7 @@ same_table : (body block : Span) {xs ys : List LogItem} {i k : ℕ} {rows more :
 same_table body block t p a b c d e = rw (a, b, c, d, e)
 
 -- The table of a refusal.
-pub refused_table : (body block : Span) {a : Answer} {t : LogItemBatch} {r : Reason} {i : ℕ} → t ≡ empty_table (Some (record { reason = r; item = i })) → a ≡ rejected r i → t ≡ table_of body block a
+pub refused_table : (body block : Span) {a : Answer} {t : LogItemBatch} {r : Reason} {i : ℕ} → t ≡ empty_table (Some (refusal_of r i)) → a ≡ rejected r i → t ≡ table_of body block a
 unfolding table_of
 refused_table body block e h = rw h e
 

@@ -52,6 +52,7 @@ use Rattle.log_batch.proofs.Whole.{body_read}
 use Rattle.refusal.specs.declared.Reason.{Reason}
 use Rattle.refusal.specs.declared.Reason.TheVariants.{BlockDiffers, ChecksumWrong}
 use Rattle.refusal.specs.declared.Refusal.{Refusal}
+use Rattle.refusal.specs.Number.{refusal_of}
 
 -- ---- bodies read
 
@@ -137,7 +138,7 @@ module _ (body : List ℕ) (signature : ℕ) where
       either (rejected r i) = inr refl
 
   -- A refused body gets its refusal.
-  pub plain_refused : {r : Reason} {i : ℕ} → read_body body signature ≡ rejected r i → plain_body body signature ≡ Err (record { reason = r; item = i })
+  pub plain_refused : {r : Reason} {i : ℕ} → read_body body signature ≡ rejected r i → plain_body body signature ≡ Err (refusal_of r i)
   unfolding plain_body
   plain_refused e = rw e
 
@@ -152,7 +153,7 @@ module _ (body block : Span) where
   pub check_refused : (r : Reason) (i : ℕ)
       → (x : Refusal) × (check_of (rejected r i) ≡ Err x) × ((table_of body block (rejected r i)).refusal ≡ Some x)
   unfolding table_of
-  check_refused r i = (record { reason = r; item = i }, refl, refl)
+  check_refused r i = (refusal_of r i, refl, refl)
 
 -- ---- the worked examples, and tables
 
@@ -210,7 +211,7 @@ unfolding table_of
 list_returned body block xs rows u q = let t = in_table body block xs rows u q in (t.0, t.1, refl, refl, refl)
 
 -- A refused reading hands back an empty table.
-pub refused_empty : (body block : Span) (r : Reason) (i : ℕ) → table_of body block (rejected r i) ≡ empty_table (Some (record { reason = r; item = i }))
+pub refused_empty : (body block : Span) (r : Reason) (i : ℕ) → table_of body block (rejected r i) ≡ empty_table (Some (refusal_of r i))
 unfolding table_of
 refused_empty body block r i = refl
 
@@ -312,7 +313,7 @@ module _ (s : List ℕ) (checked : Bool) (xs : List LogItem) (ns : List ℕ) (sm
 
   -- A whole batch, at the start of the buffer.
   pub batch_under_another : {items : ℕ} {content : List ℕ} → (n ≡ 0 → ⊥) → Bytes content → BatchWritten m items content (body_bytes s xs ns signature) out (Ok n) later
-      → (read_batch later b ≡ empty_table (Some (record { reason = ChecksumWrong; item = 0 }))) ↔ (signature ≡ b → ⊥)
+      → (read_batch later b ≡ empty_table (Some (refusal_of ChecksumWrong 0))) ↔ (signature ≡ b → ⊥)
   unfolding table_of
   batch_under_another {items} {content} h bytes v =
       let k = planned items content (length out) m (sym v.answer) h in
@@ -329,7 +330,7 @@ module _ (s : List ℕ) (checked : Bool) (xs : List LogItem) (ns : List ℕ) (sm
 -- So of what LogBatch::encode and its unchecked form write of a table.
 pub batch_second_signature : (checked : Bool) (t : LogItemBatch) (s content : List ℕ) (signature : ℕ) (out : List ℕ) {n : ℕ} {later : List ℕ} → AllSmall t.items
     → TableWritten checked t s content signature out (Ok n) later → (n ≡ 0 → ⊥) → Bytes s → Bytes content → signature < 2 ^ 32
-    → (b : ℕ) → (read_batch later b ≡ empty_table (Some (record { reason = ChecksumWrong; item = 0 }))) ↔ (signature ≡ b → ⊥)
+    → (b : ℕ) → (read_batch later b ≡ empty_table (Some (refusal_of ChecksumWrong 0))) ↔ (signature ≡ b → ⊥)
 batch_second_signature checked t s content signature out small w h store bytes key b =
     batch_under_another s checked (listed t) (table_lengths t) (table_small t small) store signature b key (λ k e. e) h bytes w
 

@@ -4,6 +4,7 @@ use Rattle.std.specs.Prelude.{ℕ, ◌-◌, List, ◌++◌, length, replicate, O
 use Rattle.log_item.specs.Blank.{blank_item, blank_entry}
 use Rattle.log_item.specs.declared.Span.{Span}
 use Rattle.refusal.specs.declared.Refusal.{Refusal}
+use Rattle.refusal.specs.Number.{refusal_of}
 use Rattle.log_batch.specs.declared.LogItemBatch.{LogItemBatch}
 use Rattle.log_batch.specs.Reading.{Answer, accepted, rejected}
 
@@ -40,7 +41,7 @@ table_of body block (accepted xs rows u q) =
       block = block;
       refusal = None;
     }
-table_of body block (rejected r i) = empty_table (Some (record { reason = r; item = i }))
+table_of body block (rejected r i) = empty_table (Some (refusal_of r i))
 
 -- the table of a body by itself: it stands at 0, and there is no block
 abbrev pub body_table : List ℕ → Answer → LogItemBatch

@@ -79,12 +79,9 @@ fn check_from(buf: &[u8], start: usize, count: usize, form: Form) -> Result<Body
                 total = passed.value.total;
                 used = passed.value.used;
             }
-            Err(NotPassed::Refused(reason)) => return Err(Refusal { reason, item: i }),
+            Err(NotPassed::Refused(reason)) => return Err(Refusal::new(reason, i)),
             // no caller of this crate sees this reason: plain answers false
-            Err(NotPassed::Padded) => {
-                let reason = Reason::NotShortest;
-                return Err(Refusal { reason, item: i });
-            }
+            Err(NotPassed::Padded) => return Err(Refusal::new(Reason::NotShortest, i)),
         }
     }
     Ok(BodyCheck {

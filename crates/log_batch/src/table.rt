@@ -91,7 +91,7 @@ impl LogItemBatch {
         for i in 0..many {
             let head = match LogItem::decode_head(buf, at, rows) {
                 Ok(head) => head,
-                Err(reason) => return LogItemBatch::empty(Some(Refusal { reason, item: i })),
+                Err(reason) => return LogItemBatch::empty(Some(Refusal::new(reason, i))),
             };
             t.items[i] = head.value;
             at = head.next;
@@ -100,7 +100,7 @@ impl LogItemBatch {
             for _ in 0..entries.count {
                 let tail = match EntryIndexes::decode_tail(buf, at, total) {
                     Ok(tail) => tail,
-                    Err(reason) => return LogItemBatch::empty(Some(Refusal { reason, item: i })),
+                    Err(reason) => return LogItemBatch::empty(Some(Refusal::new(reason, i))),
                 };
                 t.entries[rows] = EntryIndex {
                     index,

@@ -42,18 +42,18 @@ header_reply (refused r) = reply (number_of r) (0 ∷ 0 ∷ 0 ∷ [])
 -- item of a refusal, items, entries, entry total, place after the last item
 abbrev pub check_reply : Result BodyCheck Refusal → Reply
 check_reply (Ok c) = reply 0 (0 ∷ c.items ∷ c.entries ∷ c.total ∷ c.next ∷ [])
-check_reply (Err r) = reply (number_of r.reason) (r.item ∷ 0 ∷ 0 ∷ 0 ∷ 0 ∷ [])
+check_reply (Err r) = reply r.number (r.item ∷ 0 ∷ 0 ∷ 0 ∷ 0 ∷ [])
 
 -- as for a body, and place and length of the body and of the block
 abbrev pub batch_reply : Result BatchCheck Refusal → Reply
 batch_reply (Ok b) = reply 0 (0 ∷ b.check.items ∷ b.check.entries ∷ b.check.total ∷ b.check.next ∷ b.body.at ∷ b.body.len ∷ b.block.at ∷ b.block.len ∷ [])
-batch_reply (Err r) = reply (number_of r.reason) (r.item ∷ 0 ∷ 0 ∷ 0 ∷ 0 ∷ 0 ∷ 0 ∷ 0 ∷ 0 ∷ [])
+batch_reply (Err r) = reply r.number (r.item ∷ 0 ∷ 0 ∷ 0 ∷ 0 ∷ 0 ∷ 0 ∷ 0 ∷ 0 ∷ [])
 
 -- item of a refusal, 1 yes or 0 no
 abbrev pub plain_reply : Result Bool Refusal → Reply
 plain_reply (Ok true) = reply 0 (0 ∷ 1 ∷ [])
 plain_reply (Ok false) = reply 0 (0 ∷ 0 ∷ [])
-plain_reply (Err r) = reply (number_of r.reason) (r.item ∷ 0 ∷ [])
+plain_reply (Err r) = reply r.number (r.item ∷ 0 ∷ [])
 
 -- the check of an entry against the block that the queue names; a queue above 1 names none
 unfoldable pub queue_check : ℕ → ℕ → ℕ → ℕ → List ℕ → List ℕ → Checked Reason
@@ -95,4 +95,4 @@ row_status row store = status_reply (row_mark row store)
 -- a written body or batch: item of a refusal, length
 abbrev pub written_reply : Result ℕ Refusal → Reply
 written_reply (Ok n) = reply 0 (0 ∷ n ∷ [])
-written_reply (Err r) = reply (number_of r.reason) (r.item ∷ 0 ∷ [])
+written_reply (Err r) = reply r.number (r.item ∷ 0 ∷ [])

@@ -119,7 +119,7 @@ fn put_check(check: Result<BodyCheck, Refusal>, answer: &mut [u64; 5]) -> u32
         }
         Err(why) => {
             *answer = [why.item as u64, 0, 0, 0, 0];
-            why.reason.number()
+            why.number
         }
     }
 }
@@ -136,7 +136,7 @@ pub extern "C" fn raft_log_is_plain(body: &[u8], signature: u32, answer: &mut [u
         }
         Err(why) => {
             *answer = [why.item as u64, 0];
-            why.reason.number()
+            why.number
         }
     }
 }

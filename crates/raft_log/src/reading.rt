@@ -60,7 +60,7 @@ fn put_batch(batch: Result<BatchCheck, Refusal>, answer: &mut [u64; 9]) -> u32
         }
         Err(why) => {
             *answer = [why.item as u64, 0, 0, 0, 0, 0, 0, 0, 0];
-            why.reason.number()
+            why.number
         }
     }
 }

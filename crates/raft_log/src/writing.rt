@@ -55,7 +55,7 @@ fn put_written(written: Result<usize, Refusal>, answer: &mut [u64; 2]) -> u32
         }
         Err(why) => {
             *answer = [why.item as u64, 0];
-            why.reason.number()
+            why.number
         }
     }
 }

@@ -1,7 +1,8 @@
--- The number of each reason in document 01.
+-- The number of each reason in document 01, and the refusal for a reason.
 -- Assumes nothing.
 use Rattle.std.specs.Prelude.{ℕ}
 use Rattle.refusal.specs.declared.Reason.{Reason}
+use Rattle.refusal.specs.declared.Refusal.{Refusal}
 use Rattle.refusal.specs.declared.Reason.TheVariants.{HeaderShort, CompressionUnknown, OffsetAboveLength, OffsetBelowHeader, NoContent, ChecksumWrong, NumberBroken, NotShortest, ItemsTooMany, ItemTypeUnknown, CommandUnknown, OpUnknown, SpanOutside, EntriesTooMany, TailFalls, TailTooLarge, IndexTooLarge, BatchShort, Compressed, BlockDiffers, OutputShort, OutputTooLong, KeyInternal, OverlapAfter, OverlapBefore, TableBroken, IncomingBroken, StatusUnknown}
 
 abbrev pub number_of : Reason → ℕ
@@ -33,3 +34,7 @@ number_of OverlapBefore = 25
 number_of TableBroken = 26
 number_of IncomingBroken = 27
 number_of StatusUnknown = 28
+
+-- a reason's number and its item
+abbrev pub refusal_of : Reason → ℕ → Refusal
+refusal_of r i = record { number = number_of r; item = i }

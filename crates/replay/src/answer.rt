@@ -1,6 +1,4 @@
 // Whether the words of the Rust's answer are given ones: a number, a text, bytes in hex, or a refusal.
-use refusal::Reason;
-
 pub(crate) fn is_number(line: &[u8], k: usize, n: u64) -> bool {
     !line::word(line, k).is_empty() && line::number(line, k) == n
 }
@@ -21,7 +19,7 @@ pub(crate) fn is_bytes(line: &[u8], k: usize, bytes: &[u8]) -> bool {
     line::front(&buf, n) == bytes
 }
 
-// Whether the answer from a word on is this refusal.
-pub(crate) fn is_refused(line: &[u8], k: usize, reason: Reason) -> bool {
-    k <= 1000 && is_word(line, k, b"refused") && is_number(line, k + 1, u64::from(reason.number()))
+// Whether the answer from a word on is the refusal of this number.
+pub(crate) fn is_refused(line: &[u8], k: usize, number: u32) -> bool {
+    k <= 1000 && is_word(line, k, b"refused") && is_number(line, k + 1, u64::from(number))
 }

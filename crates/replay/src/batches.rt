@@ -15,7 +15,7 @@ pub(crate) fn header(line: &[u8]) -> bool {
                 && answer::is_number(line, 5, batch.len as u64)
                 && answer::is_number(line, 6, u64::from(batch.compression))
         }
-        Err(reason) => answer::is_refused(line, 4, reason),
+        Err(reason) => answer::is_refused(line, 4, reason.number()),
     }
 }
 
@@ -40,7 +40,7 @@ fn encoded(line: &[u8], table: LogItemBatch, store: &[u8], content: &[u8]) -> bo
     };
     match r {
         Ok(length) => answer::is_bytes(line, 6, line::front(&out, length)),
-        Err(why) => answer::is_refused(line, 6, why.reason),
+        Err(why) => answer::is_refused(line, 6, why.number),
     }
 }
 
@@ -65,7 +65,7 @@ fn content<'a>(line: &[u8], row: Location, append: &'a [u8], rewrite: &'a [u8]) 
     let bytes = log_batch::entry_view(row, append, rewrite, &mut refused);
     match refused {
         None => answer::is_bytes(line, 5, bytes),
-        Some(reason) => answer::is_refused(line, 5, reason),
+        Some(reason) => answer::is_refused(line, 5, reason.number()),
     }
 }
 

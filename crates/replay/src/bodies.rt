@@ -17,7 +17,7 @@ pub(crate) fn one(line: &[u8]) -> bool {
             let c = items::head(line, b, got.item, bytes);
             0 < tails(line, c, bytes, got.tails, total, got.item.entries())
         }
-        Err(reason) => answer::is_refused(line, 5, reason),
+        Err(reason) => answer::is_refused(line, 5, reason.number()),
     }
 }
 
@@ -70,7 +70,7 @@ pub(crate) fn read(line: &[u8]) -> bool {
 
 fn table_agrees(line: &[u8], table: LogItemBatch, bytes: &[u8]) -> bool {
     if let Some(why) = table.refusal {
-        return answer::is_refused(line, 5, why.reason);
+        return answer::is_refused(line, 5, why.number);
     }
     let k = items::number(line, 5, table.item_count as u64);
     let end = rows(line, k, table, bytes);
@@ -107,6 +107,6 @@ pub(crate) fn written(line: &[u8]) -> bool {
     }
     match table.encode_unchecked(bytes, line::short(line, 2), &mut out) {
         Ok(length) => answer::is_bytes(line, 5, line::front(&out, length)),
-        Err(why) => answer::is_refused(line, 5, why.reason),
+        Err(why) => answer::is_refused(line, 5, why.number),
     }
 }

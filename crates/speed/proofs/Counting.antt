@@ -7,7 +7,7 @@ use native.Mathlib.Omega.{arith}
 use lib.ListN.{length, length-append}
 use denote.Ref.{Bor}
 use Rattle.std.specs.Prelude.{Some, None, Ok, Err}
-use Rattle.refusal.specs.Number.{number_of}
+use Rattle.refusal.specs.Number.{refusal_of}
 use Rattle.refusal.specs.declared.Reason.{Reason}
 use Rattle.refusal.specs.declared.Refusal.{Refusal}
 use Rattle.log_item.specs.declared.LogItem.{LogItem}
@@ -79,11 +79,11 @@ lent body = record { ref_ptr = (0, 0); now = body }
 pub data Along (body : List ℕ) (c : Cursor) (i n : ℕ) : Answer → Type 0 where
   on : {xs ys : List LogItem} {rows more : List EntryIndex} {u q : ℕ} → length xs ≤ 256 → length rows ≤ 1024
       → StepsThrough (reader_at (lent body) c) ys more → i + length ys ≡ length xs → n + length more ≡ length rows → Along body c i n (accepted xs rows u q)
-  out : {r : Refusal} → (stepped body c).answer ≡ Err r → i ≡ 0 → n ≡ 0 → Along body c i n (rejected r.reason r.item)
+  out : {r : Reason} {j : ℕ} → (stepped body c).answer ≡ Err (refusal_of r j) → i ≡ 0 → n ≡ 0 → Along body c i n (rejected r j)
 
 module _ (body : List ℕ) (signature : ℕ) where
   refused_first : {r : Reason} {j : ℕ} → read_body body signature ≡ rejected r j
-      → (stepped body (started body signature)).answer ≡ Err (record { reason = r; item = j })
+      → (stepped body (started body signature)).answer ≡ Err (refusal_of r j)
   unfolding after_calls
   refused_first e = same_refusal (lent body) signature e 0
 
@@ -94,7 +94,7 @@ module _ (body : List ℕ) (signature : ℕ) where
       by (accepted xs rows u q) e =
           let w = (sound_body body signature e).1.begins.within in
           on {xs = xs} {ys = xs} {rows = rows} {more = rows} w.items w.entries (same_items (lent body) signature e) (omega arith) (omega arith)
-      by (rejected r j) e = out {r = record { reason = r; item = j }} (refused_first e) refl refl
+      by (rejected r j) e = out (refused_first e) refl refl
 
 module _ {body : List ℕ} {c : Cursor} {i n : ℕ} where
   -- An item is one of those that are left, and so are its rows.
@@ -120,11 +120,11 @@ module _ {body : List ℕ} {c : Cursor} {i n : ℕ} where
   end_is (on few less (go.StepsThrough.then f g s) items entries) e = absurd (cc)
   end_is (out f none nothing) e = absurd (cc)
 
-  refusal_is : {a : Answer} {r : Refusal} → Along body c i n a → (stepped body c).answer ≡ Err r → reply (number_of r.reason) (0 ∷ 0 ∷ []) ≡ steps_reply (check_of a)
+  refusal_is : {a : Answer} {r : Refusal} → Along body c i n a → (stepped body c).answer ≡ Err r → reply r.number (0 ∷ 0 ∷ []) ≡ steps_reply (check_of a)
   unfolding after_calls
   refusal_is (on few less (go.StepsThrough.end f) items entries) e = let o = f 0 in absurd (cc)
   refusal_is (on few less (go.StepsThrough.then f g s) items entries) e = absurd (cc)
-  refusal_is {r = r} (out {r = s} f none nothing) e = let same : r ≡ s = cc in rw same
+  refusal_is {r = r} (out {r = s} {j = j} f none nothing) e = let same : r ≡ refusal_of s j = cc in rw same
 
   -- The same of what a call answers.
   module _ {a : Answer} (h : Along body c i n a) {s : Stepped} (e : s ≡ stepped body c) where
@@ -135,5 +135,5 @@ module _ {body : List ℕ} {c : Cursor} {i n : ℕ} where
     pub end_counted : s.answer ≡ Ok None → reply 0 (i ∷ n ∷ []) ≡ steps_reply (check_of a)
     end_counted f = end_is h (ap (λ (t : Stepped). t.answer) (sym e) ∙ f)
 
-    pub refusal_counted : {r : Refusal} → s.answer ≡ Err r → reply (number_of r.reason) (0 ∷ 0 ∷ []) ≡ steps_reply (check_of a)
+    pub refusal_counted : {r : Refusal} → s.answer ≡ Err r → reply r.number (0 ∷ 0 ∷ []) ≡ steps_reply (check_of a)
     refusal_counted f = refusal_is h (ap (λ (t : Stepped). t.answer) (sym e) ∙ f)

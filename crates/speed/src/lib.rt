@@ -28,7 +28,7 @@ pub extern "C" fn speed_check_items(body: &[u8], answer: &mut [u64; 1]) -> u32
         }
         Err(why) => {
             *answer = [0];
-            why.reason.number()
+            why.number
         }
     }
 }
@@ -56,7 +56,7 @@ pub extern "C" fn speed_steps(body: &[u8], signature: u32, answer: &mut [u64; 2]
             }
             Err(why) => {
                 *answer = [0, 0];
-                return why.reason.number();
+                return why.number;
             }
         }
     }

@@ -1,7 +1,6 @@
 -- What reading a body into a table answers, and what writing it again from that table answers and leaves in the buffer.
 -- Assumes nothing.
 use Rattle.std.specs.Prelude.{ℕ, ◌≡◌, false, List, [], ◌∷◌, Option, Some, None, Result, Ok, Err}
-use Rattle.refusal.specs.Number.{number_of}
 use Rattle.refusal.specs.declared.Refusal.{Refusal}
 use Rattle.list_writer.specs.Bytes.{body_bytes}
 use Rattle.list_writer.specs.Answers.{measure_of, encoded_of, laid}
@@ -11,7 +10,7 @@ use Rattle.item_row.specs.Reply.{Reply, reply}
 
 -- the refusal's number, or 0
 abbrev pub refusal_number : Option Refusal → ℕ
-refusal_number (Some r) = number_of r.reason
+refusal_number (Some r) = r.number
 refusal_number None = 0
 
 -- with items, entries, entry total, place after the last item
@@ -30,7 +29,7 @@ again t body out = unless_refused t.refusal (encoded_of (measure_of body false (
 -- the length
 abbrev pub length_reply : Result ℕ Refusal → Reply
 length_reply (Ok len) = reply 0 (len ∷ [])
-length_reply (Err r) = reply (number_of r.reason) (0 ∷ [])
+length_reply (Err r) = reply r.number (0 ∷ [])
 
 -- the answer r and the later contents of out for the table t of a body: the body's bytes, then what stood there; out as it was where it is refused
 pub record TableAgain (t : LogItemBatch) (body : List ℕ) (signature : ℕ) (out : List ℕ) (r : Result ℕ Refusal) (later : List ℕ) : Type 0 where

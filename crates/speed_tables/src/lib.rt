@@ -25,7 +25,7 @@ pub extern "C" fn speed_table(body: &[u8], signature: u32, answer: &mut [u64; 4]
         u64::from(t.total),
         t.next as u64,
     ];
-    t.refusal.map_or(0, |why| why.reason.number())
+    t.refusal.map_or(0, |why| why.number)
 }
 
 // A body, read into a table by value and written from it again under the same signature: its length.
@@ -45,7 +45,7 @@ pub extern "C" fn speed_write(
         }
         Err(why) => {
             *answer = [0];
-            why.reason.number()
+            why.number
         }
     }
 }

@@ -3,7 +3,7 @@
 //     items - N      the item count
 //     rows - N       the entry count
 //     length K N     the length in entry row K
-//     unread K N     what no writer looks at: index and place in entry row K, and the table's entry total and places, and a refusal by 7
+//     unread K N     what no writer looks at: index and place in entry row K, and the table's entry total, places and refusal
 //     first I N      the first index of item I, where it is of entries
 //     count I N      the entry count of item I, likewise
 //     place I N      where the key of item I stands, where it is a put or a delete
@@ -12,7 +12,7 @@
 //     value I N      the length of that content
 use log_batch::LogItemBatch;
 use log_item::{EntryIndex, EntryIndexes, KeyValue, LogItem, LogItemContent, Op, Span};
-use refusal::{Reason, Refusal};
+use refusal::Refusal;
 
 // Up to three edits, from word 7 on.
 pub(crate) fn edited(words: &[u8], table: LogItemBatch) -> LogItemBatch {
@@ -80,7 +80,7 @@ fn unread(table: LogItemBatch, k: usize, n: u32) -> LogItemBatch {
     t.body = place;
     t.block = place;
     t.refusal = Some(Refusal {
-        reason: Reason::NumberBroken,
+        number: n,
         item: n as usize,
     });
     if k < 1024 {

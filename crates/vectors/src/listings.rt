@@ -12,7 +12,7 @@ pub(crate) fn case(rt: &impl Print, line: &[u8]) -> io::Result<()> {
     let table = log_batch::read_items(line::front(&buf, n));
     match table.refusal {
         Some(why) => {
-            let wrote = item_lines::refused_line(why.reason.number(), why.item, &mut out, at);
+            let wrote = item_lines::refused_line(why.number, why.item, &mut out, at);
             show(rt, line, wrote, &out, at)
         }
         None => {

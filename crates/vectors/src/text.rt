@@ -87,7 +87,7 @@ pub(crate) fn reason(rt: &impl Print, why: Option<Reason>) -> io::Result<()> {
 
 // The number and the item.
 pub(crate) fn refusal(rt: &impl Print, why: Refusal) -> io::Result<()> {
-    numbers(rt, &[u64::from(why.reason.number()), why.item as u64])
+    numbers(rt, &[u64::from(why.number), why.item as u64])
 }
 
 pub(crate) fn end(rt: &impl Print) -> io::Result<()> {

@@ -12,7 +12,7 @@ use Rattle.list_writer.proofs.Rows.{at_map, entry_at, rows_9, rows_item, rows_re
 use Rattle.list_writer.proofs.measure_list.Goals as goal
 
 pub returns-then-items-gt256 : goal.returns-then-items-gt256
-returns-then-items-gt256 g c = rows_9 _ _ _ _ (omega (arith, length-map c.args.items.now g.I.ItemRow.spelled))
+returns-then-items-gt256 g c = rw c.from.ensures (rows_9 _ _ _ _ (omega (arith, length-map c.args.items.now g.I.ItemRow.spelled)))
 
 pub loop-i-init : goal.loop-i-init
 loop-i-init g c =
@@ -75,14 +75,14 @@ returns-then-from-len g c =
     let v = c.loop-entry.invariant in
     let k = length-map c.args.entries.now g.E.EntryRow.length in
     let d = entry_at g.E.EntryRow.length c.args.entries.now c.loop-i.used _ c.loop-entry.entry-index _ c.entry-item.is (omega arith) (omega (arith, v.sums.room)) in
-    rows_entry_refused _ _ _ _ (omega (arith, length-map c.args.items.now g.I.ItemRow.spelled)) v.sums _ (omega arith) d (omega arith) c.loop-i.i refl
+    rw c.new.ensures (rows_entry_refused _ _ _ _ (omega (arith, length-map c.args.items.now g.I.ItemRow.spelled)) v.sums _ (omega arith) d (omega arith) c.loop-i.i refl)
 
 pub overflow_add-size-in-loop-entry : goal.overflow_add-size-in-loop-entry
 overflow_add-size-in-loop-entry g c =
     let v = c.loop-entry.invariant in
     let k = length-map c.args.entries.now g.E.EntryRow.length in
     let d = entry_at g.E.EntryRow.length c.args.entries.now c.loop-i.used _ c.loop-entry.entry-index _ c.entry-item.is (omega arith) (omega (arith, v.sums.room)) in
-    let n = c.var_u64_len-size-in-loop-entry.ensures ∙ ap (λ (n : ℕ). length (shortest n)) c.from-in-loop-entry.ensures in
+    let n = c.var_u64_len-size-in-loop-entry.ensures ∙ ap (λ (n : ℕ). length (shortest n)) c.from-in-loop-entry-2.ensures in
     let w : Measuring _ _ _ _ _ (c.loop-i.i + 1) (c.loop-i.used + (c.loop-entry.entry-index + 1)) (c.in_ok-head.head.count - (c.loop-entry.entry-index + 1)) _ _ =
     measuring_entry _ _ _ _ v.sums _ (c.loop-entry.total + c.entry_len-len.result) _ (omega arith) d (omega (arith, c.entry_len-len.ensures)) (omega arith) n (omega arith) (omega arith) in
     omega (arith, w.small, w.within, c.loop-i.invariant.few)
@@ -92,7 +92,7 @@ loop-entry-preserved g c =
     let v = c.loop-entry.invariant in
     let k = length-map c.args.entries.now g.E.EntryRow.length in
     let d = entry_at g.E.EntryRow.length c.args.entries.now c.loop-i.used _ c.loop-entry.entry-index _ c.entry-item.is (omega arith) (omega (arith, v.sums.room)) in
-    let n = c.var_u64_len-size-in-loop-entry.ensures ∙ ap (λ (n : ℕ). length (shortest n)) c.from-in-loop-entry.ensures in
+    let n = c.var_u64_len-size-in-loop-entry.ensures ∙ ap (λ (n : ℕ). length (shortest n)) c.from-in-loop-entry-2.ensures in
     let w : Measuring _ _ _ _ _ (c.loop-i.i + 1) (c.loop-i.used + (c.loop-entry.entry-index + 1)) (c.in_ok-head.head.count - (c.loop-entry.entry-index + 1)) _ _ =
     measuring_entry _ _ _ _ v.sums _ (c.loop-entry.total + c.entry_len-len.result) _ (omega arith) d (omega (arith, c.entry_len-len.ensures)) (omega arith) n (omega arith) (omega arith) in
     record { few = v.few; begun = omega arith; sums = w }

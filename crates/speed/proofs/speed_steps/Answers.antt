@@ -16,4 +16,4 @@ loop-found-smaller c =
     omega (arith, (few_counted (item_more c.loop-found.invariant c.step-step.ensures answer c.count_rows-entries.ensures)).0)
 
 pub returns-in-Err : goal.returns-in-Err
-returns-in-Err c = rw c.number.ensures (refusal_counted c.loop-found.invariant c.step-step.ensures c.in-Err.is)
+returns-in-Err c = refusal_counted c.loop-found.invariant c.step-step.ensures c.in-Err.is

@@ -11,7 +11,7 @@ pub loop-i-init : goal.loop-i-init
 loop-i-init c = rw c.empty-t.ensures (refl, refl, begun _ c.requires)
 
 pub returns-in-Err : goal.returns-in-Err
-returns-in-Err c = refused_table _ _ c.empty.ensures (filling_item_refused c.loop-i.invariant.2 refl c.loop-i-test.true (sym c.in-Err.ensures))
+returns-in-Err c = refused_table _ _ (rw c.new.ensures at c.empty.ensures) (filling_item_refused c.loop-i.invariant.2 refl c.loop-i-test.true (sym c.in-Err.ensures))
 
 pub loop-init : goal.loop-init
 loop-init c =
@@ -21,7 +21,7 @@ loop-init c =
 pub returns-in-Err-decode_tail : goal.returns-in-Err-decode_tail
 returns-in-Err-decode_tail c =
     let one : c.entries-entries.result.count - c.loop.counter ≡ suc (c.entries-entries.result.count - (c.loop.counter + 1)) = omega arith in
-    refused_table _ _ c.empty-in-Err-decode_tail.ensures (filling_row_refused c.loop.invariant.2 one refl (sym c.in-Err-decode_tail.ensures))
+    refused_table _ _ (rw c.new-in-Err-decode_tail.ensures at c.empty-in-Err-decode_tail.ensures) (filling_row_refused c.loop.invariant.2 one refl (sym c.in-Err-decode_tail.ensures))
 
 pub overflow_sub-t : goal.overflow_sub-t
 overflow_sub-t c = omega (arith, tail_known Any _ _ _ (sym c.in-Ok-decode_tail.ensures))
