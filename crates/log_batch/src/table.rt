@@ -59,13 +59,11 @@ impl LogItemBatch {
     pub fn decode(body: &[u8], signature: u32) -> LogItemBatch
         ensures { result ≡ body_table body.now (read_body body.now signature) }
     {
-        match check_seal(body, signature) {
-            Ok(()) => {
-                let n = body.len() - LogBatch::CHECKSUM_LEN;
-                LogItemBatch::fill(&body[..n], body.len())
-            }
-            Err(reason) => LogItemBatch::empty(Some(Refusal::from(reason))),
+        if let Err(reason) = check_seal(body, signature) {
+            return LogItemBatch::empty(Some(Refusal::from(reason)));
         }
+        let n = body.len() - LogBatch::CHECKSUM_LEN;
+        LogItemBatch::fill(&body[..n], body.len())
     }
 
     // The table of a body without its footer; `len` is how long a body it states, from 0 on.
