@@ -1,6 +1,6 @@
 -- What reads a body or a batch refuses for a reason alone, and so does what writes a batch where the measure of its body does.
 -- Assumes nothing.
-use Rattle.std.proofs.Common.{◌≡◌, ℕ, ◌+◌, not, List, length, Some, Result, nat_le, ◌==◌}
+use Rattle.std.proofs.Common.{◌≡◌, ℕ, ◌+◌, not, List, length, Some, Result, nat_le, ◌==◌, sym, ap}
 use Rattle.refusal.specs.declared.Reason.TheVariants.{BlockDiffers, OutputShort, OutputTooLong}
 use Rattle.refusal.specs.declared.Refusal.{Refusal}
 use Rattle.refusal.proofs.Reasons.{OfReason, ForReasons, refused_for, done_for, then_for, test_for}
@@ -12,11 +12,11 @@ use Rattle.log_batch.specs.Table.{table_of}
 use Rattle.log_batch.specs.Batch.{read_batch}
 use Rattle.log_batch.specs.Front.{body_offset, batch_encoded, front_encoded}
 use Rattle.log_batch.specs.Written.{BatchWritten}
+use Rattle.log_batch.proofs.Checking.{refusal_told}
 
 -- Without a table.
 pub check_for : (a : Answer) → ForReasons (check_of a)
-check_for (accepted xs rows u q) = done_for _
-check_for (rejected r i) = refused_for r i
+check_for a x e = let told = refusal_told a (sym e) in (told.0, ap (λ (y : Refusal). y.number) told.1)
 
 plain_for : (a strict : Answer) → ForReasons (plain_of a strict)
 plain_for (accepted xs rows u q) strict = done_for _

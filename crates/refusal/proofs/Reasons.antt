@@ -1,16 +1,20 @@
 -- A refusal is of a reason where its number is one reason's; an answer is for reasons where each refusal in it is of one.
 -- Assumes nothing.
 use Prim.Native.Nat.{ℕ}
-use mathlib.Core.Path.{◌≡◌, refl}
+use mathlib.Core.Path.{◌≡◌, refl, sym, ◌∙◌}
 use mathlib.Core.Bool.{Bool, true, false, cond}
 use Rattle.std.specs.Prelude.{Result, Ok, Err}
 use Rattle.refusal.specs.declared.Reason.{Reason}
 use Rattle.refusal.specs.declared.Refusal.{Refusal}
 use Rattle.refusal.specs.Number.{number_of, refusal_of}
 use Rattle.refusal.specs.First.{◌>>=◌}
+use Rattle.refusal.proofs.Numbers.{not_none}
 
 abbrev pub OfReason : Refusal → Type 0
 OfReason x = (r : Reason) × (x.number ≡ number_of r)
+
+pub never_0 : (x : Refusal) → OfReason x → x.number ≡ 0 → ⊥
+never_0 x h e = not_none h.0 (sym h.1 ∙ e)
 
 abbrev pub ForReasons : {A : Type 0} → Result A Refusal → Type 0
 ForReasons m = (x : Refusal) → m ≡ Err x → OfReason x
