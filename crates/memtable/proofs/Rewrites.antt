@@ -115,10 +115,10 @@ module _ (xs : List Location) (t : Table) (ys : List Location) (first n m : ℕ)
           told true h = d_none (eqb-true len 0 h)
           told false h = d_some (eqb-false len 0 h)
 
-      -- rows are put, since they lie in both lists, from the place on where the definition puts them
+      -- rows are put from the place on where the definition puts them
       pub put_is : {A : Type 0} (put : List A → ℕ → List A → ℕ → ℕ → List A) → ((rows incoming : List A) (start from : ℕ) → rows ≡ put rows start incoming from 0) → (cells incoming : List A) (a : Rewritten) → d ≡ Ok a
-          → (if nat_le (p.start + a.replaced) (length xs) && nat_le (p.from + a.replaced) (length ys) then put cells p.start incoming p.from a.replaced else cells) ≡ put cells place incoming from a.replaced
-      put_is put none cells incoming a is = let fits = run_fits a is in rw (le-leb _ _ fits.0, le-leb _ _ fits.1) (told (eqb len 0) refl)
+          → put cells p.start incoming p.from a.replaced ≡ put cells place incoming from a.replaced
+      put_is put none cells incoming a is = told (eqb len 0) refl
         where
           replaced : (outcome d t.count).replaced ≡ a.replaced
           replaced = ap (λ (r : Result Rewritten Reason). (outcome r t.count).replaced) is
@@ -126,3 +126,8 @@ module _ (xs : List Location) (t : Table) (ys : List Location) (first n m : ℕ)
           told : (b : Bool) → eqb len 0 ≡ b → put cells p.start incoming p.from a.replaced ≡ put cells place incoming from a.replaced
           told true h = rw (sym replaced ∙ k_none (eqb-true len 0 h)) (sym (none cells incoming p.start p.from) ∙ none cells incoming place from)
           told false h = rw (at_start (eqb-false len 0 h), at_from (eqb-false len 0 h)) refl
+
+      -- so is what a test puts that they lie in both lists, for they do
+      pub rows_put : {A : Type 0} (put : List A → ℕ → List A → ℕ → ℕ → List A) → ((rows incoming : List A) (start from : ℕ) → rows ≡ put rows start incoming from 0) → (cells incoming : List A) (a : Rewritten) → d ≡ Ok a
+          → (if nat_le (p.start + a.replaced) (length xs) && nat_le (p.from + a.replaced) (length ys) then put cells p.start incoming p.from a.replaced else cells) ≡ put cells place incoming from a.replaced
+      rows_put put none cells incoming a is = let fits = run_fits a is in rw (le-leb _ _ fits.0, le-leb _ _ fits.1) (put_is put none cells incoming a is)
