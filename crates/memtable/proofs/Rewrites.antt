@@ -127,7 +127,7 @@ module _ (xs : List Location) (t : Table) (ys : List Location) (first n m : ℕ)
           told true h = rw (sym replaced ∙ k_none (eqb-true len 0 h)) (sym (none cells incoming p.start p.from) ∙ none cells incoming place from)
           told false h = rw (at_start (eqb-false len 0 h), at_from (eqb-false len 0 h)) refl
 
-      -- so is what a test puts that they lie in both lists, for they do
+      -- the same behind the test that they lie in both lists, which holds
       pub rows_put : {A : Type 0} (put : List A → ℕ → List A → ℕ → ℕ → List A) → ((rows incoming : List A) (start from : ℕ) → rows ≡ put rows start incoming from 0) → (cells incoming : List A) (a : Rewritten) → d ≡ Ok a
           → (if nat_le (p.start + a.replaced) (length xs) && nat_le (p.from + a.replaced) (length ys) then put cells p.start incoming p.from a.replaced else cells) ≡ put cells place incoming from a.replaced
       rows_put put none cells incoming a is = let fits = run_fits a is in rw (le-leb _ _ fits.0, le-leb _ _ fits.1) (put_is put none cells incoming a is)
